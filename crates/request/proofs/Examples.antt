@@ -1,0 +1,21 @@
+-- Document 01's P1 and P2, over the definitions that the contracts cite. Assumes nothing.
+use mathlib.Core.Path.{_≡_, refl}
+use Prim.Native.Nat.{ℕ}
+use mathlib.Core.List.{List, [], _∷_}
+use mathlib.Core.Bool.{false}
+use lib.Ieee.{binary32, round}
+use Rattle.frame.specs.Frame.{frame}
+use Rattle.units.specs.SetSoc.{setSocCount}
+use Rattle.request.specs.Requests.{readRequest, setSocRequest}
+
+-- P1 the `Soc` request; P2 `SetSoc` 0.25 and 50.5
+requests : List (List ℕ)
+requests = readRequest 0x90 ∷ setSocRequest (round binary32 false 1 4) ∷ setSocRequest (round binary32 false 101 2) ∷ []
+
+p1-p2 : requests
+    ≡ (0xA5 ∷ 0x40 ∷ 0x90 ∷ 0x08 ∷ 0 ∷ 0 ∷ 0 ∷ 0 ∷ 0 ∷ 0 ∷ 0 ∷ 0 ∷ 0x7D ∷ [])
+    ∷ (0xA5 ∷ 0x40 ∷ 0x21 ∷ 0x08 ∷ 0 ∷ 0 ∷ 0 ∷ 0 ∷ 0 ∷ 0 ∷ 0 ∷ 3 ∷ 0x11 ∷ [])
+    ∷ (0xA5 ∷ 0x40 ∷ 0x21 ∷ 0x08 ∷ 0 ∷ 0 ∷ 0 ∷ 0 ∷ 0 ∷ 0 ∷ 0x01 ∷ 0xF9 ∷ 0x08 ∷ [])
+    ∷ []
+unfolding requests frame setSocCount round
+p1-p2 = refl

@@ -1,0 +1,96 @@
+//! Runs the port beside the Rust and compares every answer. Each named part is one test; so is
+//! each part's noticing of a spoiled answer.
+
+mod checks;
+mod frames;
+mod numbers;
+mod original;
+mod port;
+mod random;
+mod requests;
+mod set_soc;
+mod sums;
+mod trial;
+
+use std::process::ExitCode;
+use trial::Part;
+
+const DEFAULT_SEED: u64 = 20_261_018;
+
+struct Options {
+    seed: u64,
+    all_patterns: bool,
+}
+
+fn options() -> Result<Options, String> {
+    let mut seed = std::env::var("SEED").ok();
+    let mut all_patterns = false;
+    let mut words = std::env::args().skip(1);
+    while let Some(word) = words.next() {
+        match word.as_str() {
+            "--all-patterns" => all_patterns = true,
+            "--seed" => seed = Some(words.next().ok_or("--seed needs a number")?),
+            _ => {
+                return Err(format!(
+                    "unknown argument {word}: --seed N or --all-patterns"
+                ))
+            }
+        }
+    }
+    let seed = match seed {
+        None => DEFAULT_SEED,
+        Some(text) => text
+            .parse()
+            .map_err(|_| format!("the seed {text} is no number"))?,
+    };
+    Ok(Options { seed, all_patterns })
+}
+
+/// Both halves at once, on a thread each.
+fn all_patterns(seed: u64) -> Vec<bool> {
+    std::thread::scope(|scope| {
+        let halves = set_soc::ALL_PATTERNS.map(|half| scope.spawn(move || half.passes(seed)));
+        halves.map(|half| half.join().unwrap_or(false)).to_vec()
+    })
+}
+
+fn run(options: &Options) -> Vec<bool> {
+    let parts: Vec<Part> = [
+        numbers::PARTS,
+        sums::PARTS,
+        checks::PARTS,
+        requests::PARTS,
+        set_soc::PARTS,
+    ]
+    .concat();
+    // A seed for each part, so that no part's cases depend on those before it.
+    let seeded = || {
+        (0..)
+            .map(|index| options.seed.wrapping_add(index))
+            .zip(&parts)
+    };
+    let mut passed: Vec<bool> = seeded().map(|(seed, part)| part.passes(seed)).collect();
+    passed.extend(seeded().map(|(seed, part)| part.notices(seed)));
+    if options.all_patterns {
+        passed.extend(all_patterns(options.seed));
+    }
+    passed
+}
+
+fn main() -> ExitCode {
+    let options = match options() {
+        Ok(options) => options,
+        Err(text) => {
+            eprintln!("{text}");
+            return ExitCode::FAILURE;
+        }
+    };
+    println!("seed {}", options.seed);
+    let tests = run(&options);
+    let failed = tests.iter().filter(|passed| !**passed).count();
+    println!("{} passed, {failed} failed", tests.len() - failed);
+    if failed > 0 {
+        return ExitCode::FAILURE;
+    }
+    ExitCode::SUCCESS
+}

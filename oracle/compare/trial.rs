@@ -1,0 +1,137 @@
+//! The named parts: how one is run, counted and judged.
+
+use crate::port::{Port, Spoil};
+use crate::random::Random;
+use std::fmt::Debug;
+
+/// Mismatches shown of one part; all are counted.
+const SHOWN: u64 = 5;
+
+#[derive(Clone, Copy)]
+pub struct Part {
+    name: &'static str,
+    /// A full run of fewer cases fails.
+    minimum: u64,
+    run: fn(&mut Trial),
+}
+
+/// One run of one part.
+pub struct Trial {
+    pub port: Port,
+    pub random: Random,
+    name: &'static str,
+    /// A small run tests the part itself: it draws fewer cases and prints nothing.
+    small: bool,
+    cases: u64,
+    mismatches: u64,
+}
+
+impl Trial {
+    /// How often a drawn case is repeated: `full` times in a full run.
+    pub fn rounds(&self, full: u64) -> u64 {
+        if self.small {
+            full.div_ceil(1000)
+        } else {
+            full
+        }
+    }
+
+    /// Counts one case: what was found must be what was wanted, most often of the Rust.
+    pub fn check<T: PartialEq + Debug>(
+        &mut self,
+        wanted: T,
+        found: T,
+        case: impl FnOnce() -> String,
+    ) {
+        self.judge(wanted == found, || {
+            format!("wanted {wanted:02X?} found {found:02X?} at {}", case())
+        });
+    }
+
+    /// Counts one case whose answer is known beforehand: both must give it.
+    pub fn check_known<T: PartialEq + Debug>(
+        &mut self,
+        known: T,
+        rust: T,
+        ours: T,
+        case: impl FnOnce() -> String,
+    ) {
+        self.judge(rust == known && ours == known, || {
+            format!(
+                "known {known:02X?} Rust {rust:02X?} ours {ours:02X?} at {}",
+                case()
+            )
+        });
+    }
+
+    fn judge(&mut self, right: bool, text: impl FnOnce() -> String) {
+        self.cases += 1;
+        if right {
+            return;
+        }
+        self.mismatches += 1;
+        if !self.small && self.mismatches <= SHOWN {
+            println!("MISMATCH {}: {}", self.name, text());
+        }
+    }
+}
+
+impl Part {
+    pub const fn new(name: &'static str, minimum: u64, run: fn(&mut Trial)) -> Self {
+        Self { name, minimum, run }
+    }
+
+    fn tried(&self, seed: u64, small: bool, spoil: Option<Spoil>) -> Trial {
+        let mut trial = Trial {
+            port: Port::new(spoil),
+            random: Random::new(seed),
+            name: self.name,
+            small,
+            cases: 0,
+            mismatches: 0,
+        };
+        (self.run)(&mut trial);
+        trial
+    }
+
+    /// Runs the part in full.
+    pub fn passes(&self, seed: u64) -> bool {
+        let trial = self.tried(seed, false, None);
+        let passed = trial.mismatches == 0 && trial.cases >= self.minimum;
+        println!(
+            "{} {}: {} cases (at least {}), {} mismatches",
+            verdict(passed),
+            self.name,
+            trial.cases,
+            self.minimum,
+            trial.mismatches
+        );
+        passed
+    }
+
+    /// Whether a small run notices one flipped bit in one answer of the port.
+    pub fn notices(&self, seed: u64) -> bool {
+        // Run once only to learn how many answers there are to choose from.
+        let calls = self.tried(seed, true, None).port.calls;
+        let mut random = Random::new(!seed);
+        let spoil = Spoil {
+            call: random.next() % calls.max(1),
+            bit: random.below(1 << 16),
+        };
+        let noticed = self.tried(seed, true, Some(spoil)).mismatches > 0;
+        println!(
+            "{} notices a spoiled answer: {}",
+            verdict(noticed),
+            self.name
+        );
+        noticed
+    }
+}
+
+fn verdict(passed: bool) -> &'static str {
+    if passed {
+        "ok    "
+    } else {
+        "FAILED"
+    }
+}

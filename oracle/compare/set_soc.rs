@@ -41,7 +41,7 @@ const INFINITY: u32 = 0x7F80_0000;
 const QUIET: u32 = 0x0040_0000;
 /// Bits of the fraction.
 const FRACTION: u32 = 23;
-/// What the output holds before a request: no place that a request leaves alone would be right.
+/// What the output holds before a request, so that a place left unwritten shows.
 const FILL: u8 = 0x5A;
 
 fn compare(trial: &mut Trial, bits: u32) {

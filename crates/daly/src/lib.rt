@@ -1,0 +1,63 @@
+// The library for controllers: what C calls, on numbers and byte slices. A `&[u8]` is a pointer and then a length.
+ghost use mathlib.Core.Path.{_≡_};
+ghost use Rattle.frame.specs.Refusals.{checkNumber};
+ghost use Rattle.frame.specs.Checks.{sumOf, frameCheck, partCheck};
+ghost use Rattle.daly.specs.Requests.{Requests};
+
+#[no_mangle]
+pub extern "C" fn daly_calc_crc(buffer: &[u8]) -> u8
+    ensures { λ r. ⌜ r ≡ sumOf (now (buffer .entry)) ⌝ }
+{
+    frame::calc_crc(buffer)
+}
+
+#[no_mangle]
+pub extern "C" fn daly_frame_check(buffer: &[u8], command: u8) -> u8
+    ensures { λ r. ⌜ r ≡ checkNumber (frameCheck command (now (buffer .entry))) ⌝ }
+{
+    frame::frame_check(buffer, command).number()
+}
+
+#[no_mangle]
+pub extern "C" fn daly_frame_refusal(buffer: &[u8], k: usize) -> u8
+    ensures { λ r. ⌜ r ≡ checkNumber (partCheck (now (buffer .entry)) k) ⌝ }
+{
+    frame::frame_refusal(buffer, k)
+}
+
+// A request handed over, and 0 for done.
+fn send(out: &mut [u8; 13], bytes: [u8; 13]) -> u8
+    ensures { λ r. ⌜ (r ≡ 0) × (now (out .exit) ≡ bytes) ⌝ }
+{
+    *out = bytes;
+    0
+}
+
+// The request of a command, into `out`. `enable` is read for D9 and DA, `soc_percent` for 21.
+// A command that no request has is refused, and `out` stays as it was.
+#[no_mangle]
+pub extern "C" fn daly_request(
+    command: u8,
+    enable: bool,
+    soc_percent: f32,
+    out: &mut [u8; 13],
+) -> u8
+    ensures { λ r. ⌜ Requests command enable «soc_percent» (now (out .entry)) r (now (out .exit)) ⌝ }
+{
+    match command {
+        0x90 => send(out, request::soc()),
+        0x91 => send(out, request::cell_voltage_range()),
+        0x92 => send(out, request::temperature_range()),
+        0x93 => send(out, request::mosfet_status()),
+        0x94 => send(out, request::status()),
+        0x95 => send(out, request::cell_voltages()),
+        0x96 => send(out, request::cell_temperatures()),
+        0x97 => send(out, request::cell_balance_state()),
+        0x98 => send(out, request::error_code()),
+        0xD9 => send(out, request::set_discharge_mosfet(enable)),
+        0xDA => send(out, request::set_charge_mosfet(enable)),
+        0x21 => send(out, request::set_soc(soc_percent)),
+        0x00 => send(out, request::bms_reset()),
+        _ => frame::Refusal::UnknownCommand.number(),
+    }
+}

@@ -16,6 +16,6 @@ tenths z = div binary32 (nearest z) (nearest (pos 10))
 abbrev pub thousandths : ℤ → Float
 thousandths z = div binary32 (nearest z) (nearest (pos 1000))
 
--- "Current is (count − 30000) / 10.0"
-abbrev pub currentOf : ℕ → Float
-currentOf count = tenths (pos count -ℤ pos 30000)
+-- "Current is (count − 30000) / 10.0": the whole count, whose tenths are the current
+abbrev pub currentCount : ℕ → ℤ
+currentCount count = pos count -ℤ pos 30000

@@ -1,7 +1,7 @@
 // Counts of the wire as `f32`, and the count that a `SetSoc` request sends.
 ghost use mathlib.Core.Path.{_≡_};
 ghost use lib.IntN.{pos};
-ghost use Rattle.units.specs.Floats.{nearest, tenths, thousandths, currentOf};
+ghost use Rattle.units.specs.Floats.{nearest, tenths, thousandths, currentCount};
 ghost use Rattle.units.specs.SetSoc.{sent, setSocCount};
 
 pub fn tenths_u16(count: u16) -> f32
@@ -17,10 +17,17 @@ pub fn thousandths_u16(count: u16) -> f32
 }
 
 // The wire counts tenths of an ampere, offset by 30000.
-pub fn current(count: u16) -> f32
-    ensures { λ r. ⌜ r ≡ currentOf count ⌝ }
+pub fn current_count(count: u16) -> i32
+    ensures { λ r. ⌜ r ≡ currentCount count ⌝ }
 {
-    (((count as i32) - 30000) as f32) / 10.0
+    (count as i32) - 30000
+}
+
+// Tenths of a signed count: the current, once its offset is taken off.
+pub fn tenths_i32(count: i32) -> f32
+    ensures { λ r. ⌜ r ≡ tenths count ⌝ }
+{
+    std::num::nearest_i32_to_f32(count) / 10.0
 }
 
 // The nearest `f32`, a tie to the even one. The normalising shift comes from the count's leading zeros.

@@ -27,7 +27,15 @@ pub fn current_count(count: u16) -> i32
 pub fn tenths_i32(count: i32) -> f32
     ensures { λ r. ⌜ r ≡ tenths count ⌝ }
 {
-    std::num::nearest_i32_to_f32(count) / 10.0
+    // Up to 2 ^ 24 an `f32` holds the count as it is, and the cast is one instruction.
+    if count < -16_777_216 {
+        return std::num::nearest_i32_to_f32(count) / 10.0;
+    }
+    if 16_777_216 < count {
+        return std::num::nearest_i32_to_f32(count) / 10.0;
+    }
+    let exact = count as f32;
+    exact / 10.0
 }
 
 // The nearest `f32`, a tie to the even one. The normalising shift comes from the count's leading zeros.

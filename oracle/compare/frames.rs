@@ -6,13 +6,24 @@ pub const FRAME: usize = 13;
 pub const START: u8 = 0xA5;
 /// The longest reply: 85 frames.
 pub const LONGEST: usize = 1105;
+/// Where the data of a frame begins; a numbered frame has its number there.
+pub const DATA: usize = 4;
 
-/// The thirteen commands of the protocol, and eight drawn ones.
-pub fn commands(random: &mut Random) -> Vec<u8> {
-    let mut commands = vec![0x00, 0x21, 0xD9, 0xDA];
-    commands.extend(0x90..=0x98);
-    commands.extend(random.bytes(8));
-    commands
+/// A case as it is printed.
+pub fn shown(reply: &[u8], command: u8) -> String {
+    format!("command {command:02X} reply {reply:02X?}")
+}
+
+/// One of the thirteen commands of the protocol or, less often, any byte.
+pub fn command(random: &mut Random) -> u8 {
+    match random.below(21) {
+        which @ 0..9 => 0x90 + which as u8,
+        9 => 0x00,
+        10 => 0x21,
+        11 => 0xD9,
+        12 => 0xDA,
+        _ => random.byte(),
+    }
 }
 
 /// The lengths from `first` to 40, and the longest.
@@ -45,6 +56,21 @@ pub fn reply(random: &mut Random, command: u8, length: usize) -> Vec<u8> {
     }
     put_sum(&mut buffer);
     buffer
+}
+
+/// A right frame with this data in front of drawn bytes.
+pub fn frame(random: &mut Random, command: u8, data: &[u8]) -> Vec<u8> {
+    let mut frame = reply(random, command, FRAME);
+    frame[DATA..DATA + data.len()].copy_from_slice(data);
+    put_sum(&mut frame);
+    frame
+}
+
+/// Right frames, numbered from 1, with drawn values.
+pub fn numbered(random: &mut Random, command: u8, frames: usize) -> Vec<u8> {
+    (1..=frames)
+        .flat_map(|number| frame(random, command, &[number as u8]))
+        .collect()
 }
 
 /// What a bad line could deliver: a right reply, a damaged, cut or prolonged one, or mere bytes.

@@ -1,15 +1,22 @@
 //! Runs the port beside the Rust and compares every answer. Each named part is one test; so is
 //! each part's noticing of a spoiled answer.
 
+mod balance;
 mod checks;
+mod faults;
 mod frames;
+mod lists;
+mod numbered;
 mod numbers;
+mod one_frame;
 mod original;
 mod port;
 mod random;
+mod readings;
 mod requests;
 mod set_soc;
 mod sums;
+mod told;
 mod trial;
 
 use std::process::ExitCode;
@@ -58,9 +65,13 @@ fn run(options: &Options) -> Vec<bool> {
     let parts: Vec<Part> = [
         numbers::PARTS,
         sums::PARTS,
-        checks::PARTS,
+        &checks::parts(),
         requests::PARTS,
         set_soc::PARTS,
+        &readings::parts(),
+        &numbered::parts(),
+        &balance::parts(),
+        &faults::parts(),
     ]
     .concat();
     // A seed for each part, so that no part's cases depend on those before it.

@@ -4,9 +4,10 @@ use crate::original;
 use crate::trial::{Part, Trial};
 
 pub const PARTS: &[Part] = &[
-    Part::new("requests, the thirteen builders", 13 * 2 * 1000, built),
+    Part::new("requests", "the thirteen builders", 13 * 2 * 1000, built),
     Part::new(
-        "requests, every other command (10, output untouched)",
+        "requests",
+        "every other command (10, output untouched)",
         243 * 2 * 1000,
         refused,
     ),

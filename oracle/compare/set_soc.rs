@@ -5,31 +5,40 @@ use crate::trial::{Part, Trial};
 
 pub const PARTS: &[Part] = &[
     Part::new(
-        "SetSoc, 64 patterns either side of each step of the Rust",
+        "SetSoc",
+        "64 patterns either side of each step of the Rust",
         258_000,
         steps,
     ),
-    Part::new("SetSoc, halves and 4 patterns either side", 39_000, halves),
     Part::new(
-        "SetSoc, zeros, powers of two, infinities and the largest",
+        "SetSoc",
+        "halves and 4 patterns either side",
+        39_000,
+        halves,
+    ),
+    Part::new(
+        "SetSoc",
+        "zeros, powers of two, infinities and the largest",
         2_500,
         edges,
     ),
-    Part::new("SetSoc, subnormals", 100_000, subnormals),
-    Part::new("SetSoc, NaNs", 100_000, nans),
-    Part::new("SetSoc, drawn bit patterns", 10_000_000, patterns),
-    Part::new("SetSoc, drawn values from -10 to 150", 2_000_000, values),
+    Part::new("SetSoc", "subnormals", 100_000, subnormals),
+    Part::new("SetSoc", "NaNs", 100_000, nans),
+    Part::new("SetSoc", "drawn bit patterns", 10_000_000, patterns),
+    Part::new("SetSoc", "drawn values from -10 to 150", 2_000_000, values),
 ];
 
 /// All 2^32 bit patterns, in two halves for two threads. Not among the parts: it takes minutes.
 pub const ALL_PATTERNS: [Part; 2] = [
     Part::new(
-        "SetSoc, all bit patterns with the sign clear",
+        "SetSoc",
+        "all bit patterns with the sign clear",
         1 << 31,
         |trial| all(trial, 0),
     ),
     Part::new(
-        "SetSoc, all bit patterns with the sign set",
+        "SetSoc",
+        "all bit patterns with the sign set",
         1 << 31,
         |trial| all(trial, SIGN),
     ),

@@ -1,14 +1,15 @@
 //! The sum of a buffer.
 
 use crate::frames;
+use crate::original::quiet;
 use crate::trial::{Part, Trial};
 use dalybms_lib::protocol::exposed;
-use std::panic;
 
 pub const PARTS: &[Part] = &[
-    Part::new("calc_crc, 1 to 1,131 bytes", 40_000, every_length),
+    Part::new("calc_crc", "1 to 1,131 bytes", 40_000, every_length),
     Part::new(
-        "calc_crc, 0 bytes (listed difference: the Rust panics, ours answers 0)",
+        "calc_crc",
+        "0 bytes (listed difference: the Rust panics, ours answers 0)",
         2,
         no_bytes,
     ),
@@ -33,21 +34,14 @@ fn every_length(trial: &mut Trial) {
     }
 }
 
-/// `None` where the Rust panics, without its message.
-fn quiet_calc_crc(buffer: &[u8]) -> Option<u8> {
-    let hook = panic::take_hook();
-    panic::set_hook(Box::new(|_| {}));
-    let answer = panic::catch_unwind(|| exposed::calc_crc(buffer)).ok();
-    panic::set_hook(hook);
-    answer
-}
-
 fn no_bytes(trial: &mut Trial) {
     let some = [0xA5; 13];
     for (name, empty) in [("no buffer", &[][..]), ("the end of a buffer", &some[13..])] {
         let ours = trial.port.calc_crc(empty);
-        trial.check((None, 0), (quiet_calc_crc(empty), ours), || {
-            name.to_string()
-        });
+        trial.check(
+            (None, 0),
+            (quiet(|| exposed::calc_crc(empty)), ours),
+            || name.to_string(),
+        );
     }
 }

@@ -6,10 +6,13 @@ use std::fmt::Debug;
 
 /// Mismatches shown of one part; all are counted.
 const SHOWN: u64 = 5;
+/// Small runs of one part with a spoiled answer.
+const SPOILED: u64 = 5;
 
 #[derive(Clone, Copy)]
 pub struct Part {
-    name: &'static str,
+    of: &'static str,
+    what: &'static str,
     /// A full run of fewer cases fails.
     minimum: u64,
     run: fn(&mut Trial),
@@ -19,7 +22,7 @@ pub struct Part {
 pub struct Trial {
     pub port: Port,
     pub random: Random,
-    name: &'static str,
+    name: String,
     /// A small run tests the part itself: it draws fewer cases and prints nothing.
     small: bool,
     cases: u64,
@@ -33,6 +36,15 @@ impl Trial {
             full.div_ceil(1000)
         } else {
             full
+        }
+    }
+
+    /// The step through a range of values that a full run takes whole.
+    pub fn stride(&self) -> usize {
+        if self.small {
+            61
+        } else {
+            1
         }
     }
 
@@ -77,15 +89,29 @@ impl Trial {
 }
 
 impl Part {
-    pub const fn new(name: &'static str, minimum: u64, run: fn(&mut Trial)) -> Self {
-        Self { name, minimum, run }
+    pub const fn new(
+        of: &'static str,
+        what: &'static str,
+        minimum: u64,
+        run: fn(&mut Trial),
+    ) -> Self {
+        Self {
+            of,
+            what,
+            minimum,
+            run,
+        }
+    }
+
+    fn name(&self) -> String {
+        format!("{}, {}", self.of, self.what)
     }
 
     fn tried(&self, seed: u64, small: bool, spoil: Option<Spoil>) -> Trial {
         let mut trial = Trial {
             port: Port::new(spoil),
             random: Random::new(seed),
-            name: self.name,
+            name: self.name(),
             small,
             cases: 0,
             mismatches: 0,
@@ -101,7 +127,7 @@ impl Part {
         println!(
             "{} {}: {} cases (at least {}), {} mismatches",
             verdict(passed),
-            self.name,
+            trial.name,
             trial.cases,
             self.minimum,
             trial.mismatches
@@ -109,20 +135,22 @@ impl Part {
         passed
     }
 
-    /// Whether a small run notices one flipped bit in one answer of the port.
+    /// Whether small runs notice one flipped bit in one answer of the port, wherever it is.
     pub fn notices(&self, seed: u64) -> bool {
         // Run once only to learn how many answers there are to choose from.
         let calls = self.tried(seed, true, None).port.calls;
         let mut random = Random::new(!seed);
-        let spoil = Spoil {
-            call: random.next() % calls.max(1),
-            bit: random.below(1 << 16),
-        };
-        let noticed = self.tried(seed, true, Some(spoil)).mismatches > 0;
+        let noticed = (0..SPOILED).all(|_| {
+            let spoil = Spoil {
+                call: random.next() % calls.max(1),
+                bit: random.next() as usize,
+            };
+            self.tried(seed, true, Some(spoil)).mismatches > 0
+        });
         println!(
             "{} notices a spoiled answer: {}",
             verdict(noticed),
-            self.name
+            self.name()
         );
         noticed
     }

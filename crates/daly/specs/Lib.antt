@@ -1,1 +1,3 @@
 pub mod Requests
+pub mod Readings
+pub mod Lists

@@ -4,6 +4,9 @@ ghost use Rattle.frame.specs.Refusals.{checkNumber};
 ghost use Rattle.frame.specs.Checks.{sumOf, frameCheck, partCheck};
 ghost use Rattle.daly.specs.Requests.{Requests};
 
+mod lists;
+mod readings;
+
 #[no_mangle]
 pub extern "C" fn daly_calc_crc(buffer: &[u8]) -> u8
     ensures { λ r. ⌜ r ≡ sumOf (now (buffer .entry)) ⌝ }

@@ -1,0 +1,56 @@
+-- Document 01's P9 and P10, and the order of refusals of a 97 and a 98 reply, over the definitions that the contracts cite. Assumes nothing.
+use mathlib.Core.Path.{_≡_, refl}
+use Prim.Native.Nat.{ℕ}
+use mathlib.Core.List.{List, [], _∷_, _++_, map}
+use lib.ListN.{take, length}
+use Rattle.wire.specs.Lists.{firsts}
+use Rattle.frame.specs.Refusals.{checkNumber}
+use Rattle.frame.specs.Frame.{total, sum, summed, frame}
+use Rattle.frame.specs.Checks.{sumOf, lenCheck, headerCheck, checksumCheck, frameCheck}
+use Rattle.list.specs.Listed.{gate}
+use Rattle.flags.specs.Balance.{flagCount, flagAt, balanceCheck}
+use Rattle.flags.specs.Faults.{faults, faultsCheck}
+
+-- a sound reply with byte 6 being 3
+abbrev three : ℕ → List ℕ
+three command = frame 1 command (0 ∷ 0 ∷ 3 ∷ 0 ∷ 0 ∷ 0 ∷ 0 ∷ 0 ∷ [])
+
+-- a reply with every bit set
+abbrev all : List ℕ
+all = frame 1 0x98 (255 ∷ 255 ∷ 255 ∷ 255 ∷ 255 ∷ 255 ∷ 255 ∷ 255 ∷ [])
+
+-- the number of flags that are stored for a count
+abbrev flagsFor : ℕ → ℕ
+flagsFor n = length (firsts (flagAt (three 0x97)) (flagCount n))
+
+examples :
+    _≡_ {A = List (List ℕ)}
+    -- P9
+    (map flagsFor (0 ∷ 49 ∷ 1 ∷ 48 ∷ 255 ∷ [])
+    -- P10
+    ∷ faults (three 0x98)
+    ∷ faults all
+    -- 97: 0; 1 before 9; 9 before 2, with one place for n = 0 and 48 for n = 255; 2 before 3; 3, also where a 00 follows the frame
+    ∷ (checkNumber (balanceCheck (three 0x97) 48 48)
+    ∷ checkNumber (balanceCheck (take 12 (three 0x97)) 48 47)
+    ∷ checkNumber (balanceCheck (three 0x98) 0 0)
+    ∷ checkNumber (balanceCheck (three 0x98) 255 47)
+    ∷ checkNumber (balanceCheck (three 0x98 ++ (0 ∷ [])) 255 48)
+    ∷ checkNumber (balanceCheck (three 0x97 ++ (0 ∷ [])) 255 48)
+    ∷ [])
+    -- 98: the same
+    ∷ (checkNumber (faultsCheck (three 0x98) 48)
+    ∷ checkNumber (faultsCheck (take 12 (three 0x98)) 47)
+    ∷ checkNumber (faultsCheck (three 0x97) 47)
+    ∷ checkNumber (faultsCheck (three 0x97 ++ (0 ∷ [])) 48)
+    ∷ checkNumber (faultsCheck (three 0x98 ++ (0 ∷ [])) 48)
+    ∷ [])
+    ∷ [])
+    ((1 ∷ 48 ∷ 1 ∷ 48 ∷ 48 ∷ [])
+    ∷ (17 ∷ 16 ∷ [])
+    ∷ (firsts (λ i. i) 16 ++ (17 ∷ 16 ∷ []) ++ (18 ∷ 19 ∷ 20 ∷ 21 ∷ 22 ∷ 23 ∷ 24 ∷ 25 ∷ 26 ∷ 27 ∷ 28 ∷ 29 ∷ 30 ∷ 31 ∷ 32 ∷ 33 ∷ 34 ∷ 35 ∷ 36 ∷ 37 ∷ 38 ∷ 39 ∷ 40 ∷ 41 ∷ 42 ∷ 43 ∷ 44 ∷ 45 ∷ 46 ∷ 47 ∷ []))
+    ∷ (0 ∷ 1 ∷ 9 ∷ 9 ∷ 2 ∷ 3 ∷ [])
+    ∷ (0 ∷ 1 ∷ 9 ∷ 2 ∷ 3 ∷ [])
+    ∷ [])
+unfolding total sum summed frame sumOf lenCheck headerCheck checksumCheck frameCheck gate faults
+examples = refl

@@ -1,0 +1,5 @@
+pub mod Filling
+pub mod Frames
+pub mod Decoding
+pub mod Examples
+pub mod Decided

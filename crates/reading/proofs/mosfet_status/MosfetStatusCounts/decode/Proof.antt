@@ -1,0 +1,31 @@
+use mathlib.Core.Path.{ap}
+use Rattle.reading.specs.declared.«mosfet_status».MosfetStatusCountsAnswer.the-variants.{MosfetStatusCountsGiven}
+use mathlib.Core.Path.{sym, _∙_}
+use Rattle.reading.proofs.Laws.{mosfet-long}
+use borrow.Author.Needs.{needs}
+use Rattle.reading.proofs.mosfet_status.MosfetStatusCounts.decode.Statement.{statement}
+use Rattle.reading.proofs.mosfet_status.MosfetStatusCounts.decode.Tie as tie
+
+mosfet-check-requires : tie.Need-mosfet-check-requires
+mosfet-check-requires c κs = search needs
+
+enum-known-refusal : tie.Need-enum-known-refusal
+enum-known-refusal c = search needs
+
+enum-told : tie.Need-enum-told
+enum-told c = search needs
+
+read-requires : tie.Need-read-requires
+read-requires c κs = mosfet-long _ (c .before .before .mosfet-check .ensures) (c .enum-told .given .1)
+
+returns : tie.Need-returns
+returns c = rw (sym (c .before .before .before .mosfet-check .ensures) ∙ c .before .refusal .given .1)
+
+returns-2 : tie.Need-returns-2
+returns-2 c =
+    rw (sym (c .before .before .before .mosfet-check .ensures) ∙ c .before .enum-told .given .1) (ap MosfetStatusCountsGiven (c .read .ensures))
+
+pub decode-spec : {M : Type 1} → statement M
+decode-spec =
+    tie.close
+    (tie.spec mosfet-check-requires enum-known-refusal enum-told read-requires returns returns-2)

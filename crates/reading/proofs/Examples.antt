@@ -55,9 +55,9 @@ modes : map (λ mode. decodedMosfetStatusCounts (reply 0x93 mode)) (0 ∷ 1 ∷ 
 unfolding reply counts frame mosfetCheck frameCheck
 modes = refl
 
--- an unknown mode is the last of the refusals: with another sum it is 3, with another command 2, with a byte less 1
+-- the order of the refusals: an unknown mode, then also another sum, then also another command, then also a byte less
 orders : map (λ s. checkNumber (mosfetCheck s))
-    (reply 0x93 2 ∷ reply 0x93 3 ∷ (reply 0x93 3 ++ (0 ∷ [])) ∷ (reply 0x92 3 ++ (0 ∷ [])) ∷ take 12 (reply 0x92 3) ∷ [])
+    (reply 0x93 2 ∷ reply 0x93 3 ∷ (reply 0x93 3 ++ 0 ∷ []) ∷ (reply 0x92 3 ++ 0 ∷ []) ∷ take 12 (reply 0x92 3) ∷ [])
     ≡ 0 ∷ 5 ∷ 3 ∷ 2 ∷ 1 ∷ []
 unfolding reply frame mosfetCheck frameCheck
 orders = refl

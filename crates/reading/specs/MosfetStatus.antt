@@ -25,7 +25,7 @@ use Rattle.reading.specs.declared.«mosfet_status».MosfetStatusAnswer.t
 unfoldable pub mosfetCheck : List ℕ → Check
 mosfetCheck s = then (frameCheck 0x93 s) (refuse (ltb 2 (byteAt s 4)) UnknownMode Sound)
 
--- the mode "0 to 2"; a byte over 2 is refused
+-- the mode "0 to 2", in document 000's order; a byte over 2 is refused
 abbrev pub modeOf : ℕ → MosfetMode
 modeOf byte = cond (eqb byte 0) Stationary (cond (eqb byte 1) Charging Discharging)
 

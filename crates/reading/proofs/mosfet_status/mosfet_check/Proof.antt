@@ -1,9 +1,9 @@
-use borrow.Author.Tests.{lt-ltb, le-ltb}
 use mathlib.Core.Path.{sym, _∙_}
+use native.Mathlib.Omega.{arith}
+use borrow.Author.Tests.{lt-ltb, le-ltb}
+use borrow.Author.Needs.{needs}
 use Rattle.frame.proofs.Laws.{sound-long, then-stops}
 use Rattle.reading.specs.MosfetStatus.{mosfetCheck}
-use native.Mathlib.Omega.{arith}
-use borrow.Author.Needs.{needs}
 use Rattle.reading.proofs.mosfet_status.mosfet_check.Statement.{statement}
 use Rattle.reading.proofs.mosfet_status.mosfet_check.Tie as tie
 

@@ -1,14 +1,14 @@
-use Rattle.reading.specs.TemperatureRange.{asI8}
 use Prim.Native.Nat.{ℕ, _<_, _≤_}
 use mathlib.Core.Path.{_≡_, sym, _∙_, subst}
+use native.Mathlib.Omega.{arith}
 use lib.IntN.{ℤ, pos, _-ℤ_}
 use mir.Syntax.{w8}
 use mir.Val.{SFits}
 use mir.Facts.{toZ-ofZ}
-use Rattle.wire.proofs.Offset.{coded-fits, read-back}
 use borrow.Author.Tests.{lt-ltb, le-ltb}
-use native.Mathlib.Omega.{arith}
 use borrow.Author.Needs.{needs}
+use Rattle.wire.proofs.Offset.{coded-fits, read-back}
+use Rattle.reading.specs.TemperatureRange.{asI8}
 use Rattle.reading.proofs.temperature_range.as_i8.Statement.{statement}
 use Rattle.reading.proofs.temperature_range.as_i8.Tie as tie
 

@@ -1,10 +1,10 @@
 use mathlib.Core.Path.{_≡_, ap, _∙_}
+use native.Mathlib.Omega.{arith}
 use mir.Syntax.{w8}
 use mir.Val.{SFits}
 use mir.Facts.{toZ-ofZ}
-use Rattle.reading.specs.TemperatureRange.{asI8, less40}
-use native.Mathlib.Omega.{arith}
 use borrow.Author.Needs.{needs}
+use Rattle.reading.specs.TemperatureRange.{asI8, less40}
 use Rattle.reading.proofs.temperature_range.temperature.Statement.{statement}
 use Rattle.reading.proofs.temperature_range.temperature.Tie as tie
 

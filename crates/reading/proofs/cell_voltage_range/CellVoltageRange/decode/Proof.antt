@@ -1,7 +1,6 @@
-use mathlib.Core.Path.{ap}
-use Rattle.reading.specs.declared.«cell_voltage_range».CellVoltageRangeAnswer.the-variants.{CellVoltageRangeGiven}
-use mathlib.Core.Path.{sym, _∙_}
+use mathlib.Core.Path.{ap, sym, _∙_}
 use borrow.Author.Needs.{needs}
+use Rattle.reading.specs.declared.«cell_voltage_range».CellVoltageRangeAnswer.the-variants.{CellVoltageRangeGiven}
 use Rattle.reading.proofs.cell_voltage_range.CellVoltageRange.decode.Statement.{statement}
 use Rattle.reading.proofs.cell_voltage_range.CellVoltageRange.decode.Tie as tie
 

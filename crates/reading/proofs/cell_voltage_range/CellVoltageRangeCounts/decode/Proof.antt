@@ -1,11 +1,8 @@
-use mathlib.Core.Path.{ap}
-use Rattle.reading.specs.declared.«cell_voltage_range».CellVoltageRangeCountsAnswer.the-variants.{CellVoltageRangeCountsGiven}
-use mathlib.Core.Path.{sym, _∙_}
-use Rattle.frame.proofs.Laws.{sound-long}
+use mathlib.Core.Path.{ap, sym, _∙_}
 use borrow.Author.Needs.{needs}
-use Rattle.reading.proofs.cell_voltage_range.CellVoltageRangeCounts.decode.Statement.{
-  statement,
-}
+use Rattle.frame.proofs.Laws.{sound-long}
+use Rattle.reading.specs.declared.«cell_voltage_range».CellVoltageRangeCountsAnswer.the-variants.{CellVoltageRangeCountsGiven}
+use Rattle.reading.proofs.cell_voltage_range.CellVoltageRangeCounts.decode.Statement.{statement}
 use Rattle.reading.proofs.cell_voltage_range.CellVoltageRangeCounts.decode.Tie as tie
 
 frame-check-requires : tie.Need-frame-check-requires

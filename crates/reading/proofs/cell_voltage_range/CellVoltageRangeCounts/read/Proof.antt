@@ -1,7 +1,5 @@
 use borrow.Author.Needs.{needs}
-use Rattle.reading.proofs.cell_voltage_range.CellVoltageRangeCounts.read.Statement.{
-  statement,
-}
+use Rattle.reading.proofs.cell_voltage_range.CellVoltageRangeCounts.read.Statement.{statement}
 use Rattle.reading.proofs.cell_voltage_range.CellVoltageRangeCounts.read.Tie as tie
 
 shared-slice-read-two-bytes : tie.Need-shared-slice-read-two-bytes

@@ -1,7 +1,5 @@
 use borrow.Author.Needs.{needs}
-use Rattle.reading.proofs.cell_voltage_range.CellVoltageRangeCounts.record.Statement.{
-  statement,
-}
+use Rattle.reading.proofs.cell_voltage_range.CellVoltageRangeCounts.record.Statement.{statement}
 use Rattle.reading.proofs.cell_voltage_range.CellVoltageRangeCounts.record.Tie as tie
 
 thousandths-u16-requires : tie.Need-thousandths-u16-requires

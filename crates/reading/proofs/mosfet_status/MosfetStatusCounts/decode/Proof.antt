@@ -1,8 +1,7 @@
-use mathlib.Core.Path.{ap}
-use Rattle.reading.specs.declared.«mosfet_status».MosfetStatusCountsAnswer.the-variants.{MosfetStatusCountsGiven}
-use mathlib.Core.Path.{sym, _∙_}
-use Rattle.reading.proofs.Laws.{mosfet-long}
+use mathlib.Core.Path.{ap, sym, _∙_}
 use borrow.Author.Needs.{needs}
+use Rattle.reading.specs.declared.«mosfet_status».MosfetStatusCountsAnswer.the-variants.{MosfetStatusCountsGiven}
+use Rattle.reading.proofs.Laws.{mosfet-long}
 use Rattle.reading.proofs.mosfet_status.MosfetStatusCounts.decode.Statement.{statement}
 use Rattle.reading.proofs.mosfet_status.MosfetStatusCounts.decode.Tie as tie
 

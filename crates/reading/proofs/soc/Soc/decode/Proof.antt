@@ -1,7 +1,6 @@
-use mathlib.Core.Path.{ap}
-use Rattle.reading.specs.declared.soc.SocAnswer.the-variants.{SocGiven}
-use mathlib.Core.Path.{sym, _∙_}
+use mathlib.Core.Path.{ap, sym, _∙_}
 use borrow.Author.Needs.{needs}
+use Rattle.reading.specs.declared.soc.SocAnswer.the-variants.{SocGiven}
 use Rattle.reading.proofs.soc.Soc.decode.Statement.{statement}
 use Rattle.reading.proofs.soc.Soc.decode.Tie as tie
 

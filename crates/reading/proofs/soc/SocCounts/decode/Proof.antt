@@ -1,8 +1,7 @@
-use mathlib.Core.Path.{ap}
-use Rattle.reading.specs.declared.soc.SocCountsAnswer.the-variants.{SocCountsGiven}
-use mathlib.Core.Path.{sym, _∙_}
-use Rattle.frame.proofs.Laws.{sound-long}
+use mathlib.Core.Path.{ap, sym, _∙_}
 use borrow.Author.Needs.{needs}
+use Rattle.frame.proofs.Laws.{sound-long}
+use Rattle.reading.specs.declared.soc.SocCountsAnswer.the-variants.{SocCountsGiven}
 use Rattle.reading.proofs.soc.SocCounts.decode.Statement.{statement}
 use Rattle.reading.proofs.soc.SocCounts.decode.Tie as tie
 

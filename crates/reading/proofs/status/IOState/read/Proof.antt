@@ -28,7 +28,17 @@ read-bit-requires-8 c κs = search needs
 
 returns : tie.Need-returns
 returns c =
-    rw (c .before .before .before .before .before .before .before .read-bit .ensures, c .before .before .before .before .before .before .read-bit2 .ensures, c .before .before .before .before .before .read-bit3 .ensures, c .before .before .before .before .read-bit4 .ensures, c .before .before .before .read-bit5 .ensures, c .before .before .read-bit6 .ensures, c .before .read-bit7 .ensures, c .read-bit8 .ensures)
+    let d = c .before .before .before .before in
+    λ i. record {
+      di1 = d .before .before .before .read-bit .ensures i;
+      di2 = d .before .before .read-bit2 .ensures i;
+      di3 = d .before .read-bit3 .ensures i;
+      di4 = d .read-bit4 .ensures i;
+      do1 = c .before .before .before .read-bit5 .ensures i;
+      do2 = c .before .before .read-bit6 .ensures i;
+      do3 = c .before .read-bit7 .ensures i;
+      do4 = c .read-bit8 .ensures i;
+    }
 
 pub read-spec : {M : Type 1} → statement M
 read-spec =

@@ -1,8 +1,7 @@
-use mathlib.Core.Path.{ap}
-use Rattle.reading.specs.declared.«temperature_range».TemperatureRangeAnswer.the-variants.{TemperatureRangeGiven}
-use mathlib.Core.Path.{sym, _∙_}
-use Rattle.frame.proofs.Laws.{sound-long}
+use mathlib.Core.Path.{ap, sym, _∙_}
 use borrow.Author.Needs.{needs}
+use Rattle.frame.proofs.Laws.{sound-long}
+use Rattle.reading.specs.declared.«temperature_range».TemperatureRangeAnswer.the-variants.{TemperatureRangeGiven}
 use Rattle.reading.proofs.temperature_range.TemperatureRange.decode.Statement.{statement}
 use Rattle.reading.proofs.temperature_range.TemperatureRange.decode.Tie as tie
 

@@ -1,0 +1,89 @@
+-- The answer of a push, from what its way over the chunk came to. Assumes nothing.
+use mathlib.Core.Path.{_≡_, refl, sym, ap, _∙_}
+use mathlib.Core.Bool.{Bool, true, false, _||_, true≢false}
+use mathlib.Core.List.{List, _++_}
+use mathlib.Core.Option.{none}
+use Prim.Native.Nat.{ℕ, _+_, _*_, _%_, _≤_, _<_}
+use native.Mathlib.Omega.{arith}
+use lib.ListN.{length, drop, getD, length-append, List·getD-append}
+use lib.Dec.{ltb}
+use Rattle.rules.specs.Rules.{Config, look, if_then_else_}
+use Rattle.rules.specs.Ledger.{Outcome, run, total, discards}
+use Rattle.rules.specs.Reader.{wrap, complete, took, did, booked, push, status}
+use Rattle.rules.proofs.Run.{run-stop}
+use Rattle.rules.proofs.Recut.{look-held, held-open, untaken-open}
+use Rattle.rules.specs.Reader.{bad, answer}
+use Rattle.reader.specs.View.{chop}
+use Rattle.reader.specs.View.{config, front, view, Answered}
+use Rattle.reader.specs.Steps.{Moves}
+use Rattle.reader.proofs.Turns.{is-open}
+use Rattle.reader.proofs.Parts.{first-of}
+use Rattle.reader.proofs.Parts.{length-front, first-front}
+use Rattle.reader.specs.declared.Counts.{Counts}
+use Rattle.reader.specs.declared.moves.Moved.{Moved}
+
+-- ---- a chunk that is only held
+
+pub moves-append : (c : Config) (k x : ℕ) (f f′ t : List ℕ) (n m : ℕ) → k < c .wanted → 0 < n → n + length t ≤ 12 → getD f (13 * k) 0 ≡ 0xA5 → x < 4294967296
+    → front n (drop (13 * k) f) ++ t ≡ front m (drop (13 * k) f′) → chop k f ≡ chop k f′
+    → Moves c (run c (chop k f) (front n (drop (13 * k) f) ++ t)) x t f′ record { took = length t; lost = 0; collected = k; cleared = x; held = m }
+unfolding total
+moves-append c k x f f′ t n m w p b z y g q =
+    let l : List ℕ = drop (13 * k) f in
+    let a : List ℕ = front n l in
+    let la : length a ≡ n = length-front n l in
+    let open? : complete c (chop k f) ≡ false = is-open c k f w in
+    let first : getD (a ++ t) 0 0 ≡ 0xA5 = List·getD-append a t 0 0 (omega arith) ∙ first-front n l p ∙ first-of f (13 * k) ∙ z in
+    let none? : look c (length (chop k f)) (a ++ t) ≡ none = look-held c (chop k f) open? (a ++ t) (omega (arith, length-append a t)) (λ i. first) in
+    rw (run-stop c (chop k f) (a ++ t) none?)
+    record {
+      collected = q;
+      held = held-open c (chop k f) (a ++ t) open? ∙ g;
+      took = rw (untaken-open c (chop k f) (a ++ t) open?) (omega arith);
+      lost = refl;
+      cleared = omega arith;
+    }
+
+-- ---- the answer
+
+pub answered-bad : (f : List ℕ) (c : Counts) (s : List ℕ) → bad (view c f) ≡ true → Answered f c s 8 0 c f
+unfolding answer
+answered-bad f c s e = record { by-rule = rw e; as-given = λ h. (refl, refl) }
+
+module _ (f : List ℕ) (c : Counts) (s f′ : List ℕ) (m : Moved) (mark : Bool) (taken discarded st : ℕ) where
+  -- the struct that the code makes
+  abbrev pub After : Counts
+  After =
+      record {
+        command = c .command;
+        mark = mark;
+        taken = taken;
+        discarded = discarded;
+        cleared = m .cleared;
+        wanted = c .wanted;
+        collected = m .collected;
+        held = m .held;
+      }
+
+  pub answered : bad (view c f) ≡ false
+      → Moves (config (c .command) (c .wanted)) (run (config (c .command) (c .wanted)) (chop (c .collected) f) (front (c .held) (drop (13 * c .collected) f) ++ s)) (c .cleared) s f′ m
+      → mark ≡ (c .mark || ltb 512 (c .discarded + m .lost)) → taken ≡ (c .taken + m .took % 4294967296) % 4294967296
+      → discarded ≡ (c .discarded + m .lost % 4294967296) % 4294967296 → st ≡ (if mark then 2 else 0)
+      → Answered f c s st (m .took) After f′
+  unfolding answer push did booked view status
+  answered e v o t d k =
+      let g : Config = config (c .command) (c .wanted) in
+      let u : Outcome = run g (chop (c .collected) f) (front (c .held) (drop (13 * c .collected) f) ++ s) in
+      let to : taken ≡ wrap (c .taken + took g u s) = t ∙ (let q : m .took ≡ took g u s = v .took in omega arith) in
+      let do′ : discarded ≡ wrap (c .discarded + discards (u .ledger)) = d ∙ (let q : m .lost ≡ discards (u .ledger) = v .lost in omega arith) in
+      let ov : mark ≡ (c .mark || ltb 512 (c .discarded + discards (u .ledger))) = o ∙ ap (λ (y : ℕ). c .mark || ltb 512 (c .discarded + y)) (v .lost) in
+      let rd : view After f′ ≡ push (view c f) s =
+      λ i. record { config = g; collected = sym (v .collected) i; held = sym (v .held) i; taken = to i; discarded = do′ i; cleared = v .cleared i; mark = ov i } in
+      record {
+        by-rule = rw e (λ i. record { reader = rd i; status = (k ∙ ap (λ (y : Bool). if y then 2 else 0) ov) i; took = v .took i });
+        as-given = λ z. absurd (true≢false (sym z ∙ e));
+      }
+
+pub none-held : (n : ℕ) (l t : List ℕ) → n ≡ 0 → front n l ++ t ≡ t
+unfolding front
+none-held n l t e = rw e

@@ -1,0 +1,130 @@
+-- What the contract of a push gives its callers: pushes in a row, and demand 3 of the code. Assumes nothing.
+use mathlib.Core.Path.{_≡_, refl, sym, ap, _∙_}
+use mathlib.Core.Bool.{Bool, true, false, true≢false}
+use mathlib.Core.List.{List, [], _∷_, _++_}
+use Prim.Native.Nat.{ℕ, _+_, _*_, _≤_}
+use native.Mathlib.Omega.{arith}
+use lib.ListN.{length, take, drop}
+use lib.Seq.{take-add}
+use Rattle.rules.specs.Rules.{Config}
+use Rattle.rules.specs.Reader.{Reader, Answer, fresh, did, booked, push, status, took, bad, answer, joined}
+use Rattle.rules.specs.Demand.{answers, Demand}
+use Rattle.rules.proofs.Recut.{recut, parts}
+use Rattle.rules.proofs.Demand.{bad-push, cuts-dont-matter}
+use Rattle.reader.specs.View.{config, chop, front, view, Answered, Fed}
+use Rattle.reader.specs.Told.{freshCounts}
+use Rattle.reader.specs.declared.Counts.{Counts}
+use Rattle.reader.proofs.Parts.{length-chop, length-front}
+
+-- ---- one push
+
+module _ (f : List ℕ) (c : Counts) (s : List ℕ) (st tk : ℕ) (c′ : Counts) (f′ : List ℕ) (a : Answered f c s st tk c′ f′) where
+  -- a reader that is not refused moves on by the rules
+  pub answered-push : bad (view c f) ≡ false
+      → (view c′ f′ ≡ push (view c f) s) × (st ≡ status (push (view c f) s)) × (tk ≡ took (view c f .config) (did (view c f) s) s)
+  unfolding answer
+  answered-push b =
+      let e = rw b at (a .by-rule) in (ap (λ (x : Answer). x .reader) e, ap (λ (x : Answer). x .status) e, ap (λ (x : Answer). x .took) e)
+
+  -- one that is refused is answered 8 with nothing taken, and stays as it is
+  pub answered-refused : bad (view c f) ≡ true → (st ≡ 8) × (tk ≡ 0) × (c′ ≡ c) × (f′ ≡ f)
+  unfolding answer
+  answered-refused b =
+      let e = rw b at (a .by-rule) in (ap (λ (x : Answer). x .status) e, ap (λ (x : Answer). x .took) e, a .as-given b .0, a .as-given b .1)
+
+  -- never more is taken than is given
+  pub answered-took : tk ≤ length s
+  answered-took = go (bad (view c f)) refl
+    where
+      go : (b : Bool) → bad (view c f) ≡ b → tk ≤ length s
+      go true e = omega (arith, answered-refused e .1)
+      go false e = omega (arith, answered-push e .2)
+
+-- what is seen of a reader decides its numbers
+module _ (c₁ : Counts) (f₁ : List ℕ) (c₂ : Counts) (f₂ : List ℕ) (seen : view c₁ f₁ ≡ view c₂ f₂) where
+  pub same-counts : c₁ ≡ c₂
+  unfolding view
+  same-counts =
+      let k : c₁ .collected ≡ c₂ .collected = sym (length-chop (c₁ .collected) f₁) ∙ ap (λ (x : Reader). length (x .collected)) seen ∙ length-chop (c₂ .collected) f₂ in
+      let h : c₁ .held ≡ c₂ .held =
+      sym (length-front (c₁ .held) (drop (13 * c₁ .collected) f₁)) ∙ ap (λ (x : Reader). length (x .held)) seen ∙ length-front (c₂ .held) (drop (13 * c₂ .collected) f₂) in
+      λ i. record {
+        command = seen i .config .command;
+        mark = seen i .mark;
+        taken = seen i .taken;
+        discarded = seen i .discarded;
+        cleared = seen i .cleared;
+        wanted = seen i .config .wanted;
+        collected = k i;
+        held = h i;
+      }
+
+-- ---- two pushes are one
+
+same-config : (r : Reader) (s : List ℕ) → push r s .config ≡ r .config
+unfolding push booked
+same-config r s = refl
+
+module _ (f : List ℕ) (c : Counts) (s t : List ℕ) (st₁ tk₁ : ℕ) (c₁ : Counts) (f₁ : List ℕ) (st₂ tk₂ : ℕ) (c₂ : Counts) (f₂ : List ℕ)
+    (a : Answered f c s st₁ tk₁ c₁ f₁) (b : Answered f₁ c₁ t st₂ tk₂ c₂ f₂) where
+  both-bad : bad (view c f) ≡ true → Answered f c (s ++ t) st₂ (tk₁ + tk₂) c₂ f₂
+  unfolding answer
+  both-bad e =
+      let x = answered-refused f c s st₁ tk₁ c₁ f₁ a e in
+      let same : view c₁ f₁ ≡ view c f = (λ i. view (x .2 i) (x .3 i)) in
+      let y = answered-refused f₁ c₁ t st₂ tk₂ c₂ f₂ b (rw same e) in
+      let v : view c₂ f₂ ≡ view c f = (λ i. view (y .2 i) (y .3 i)) ∙ same in
+      let k : tk₁ + tk₂ ≡ 0 = omega (arith, x .1, y .1) in
+      record {
+        by-rule = rw e (λ i. record { reader = v i; status = y .0 i; took = k i });
+        as-given = λ z. (y .2 ∙ x .2, y .3 ∙ x .3);
+      }
+
+  both-good : bad (view c f) ≡ false → Answered f c (s ++ t) st₂ (tk₁ + tk₂) c₂ f₂
+  unfolding answer
+  both-good e =
+      let r : Reader = view c f in
+      let x = answered-push f c s st₁ tk₁ c₁ f₁ a e in
+      let y = rw (x .0) at (answered-push f₁ c₁ t st₂ tk₂ c₂ f₂ b (rw (x .0) (bad-push (view c f) s e))) in
+      let v : view c₂ f₂ ≡ push (view c f) (s ++ t) = y .0 ∙ recut (view c f) s t in
+      let w : st₂ ≡ status (push (view c f) (s ++ t)) = y .1 ∙ ap status (recut (view c f) s t) in
+      let u : tk₂ ≡ took (view c f .config) (did (push (view c f) s) t) t = y .2 ∙ ap (λ (g : Config). took g (did (push (view c f) s) t) t) (same-config (view c f) s) in
+      let k : tk₁ + tk₂ ≡ took (view c f .config) (did (view c f) (s ++ t)) (s ++ t) = (λ i. x .2 i + u i) ∙ parts (view c f) s t .taken in
+      record {
+        by-rule = rw e (λ i. record { reader = v i; status = w i; took = k i });
+        as-given = λ z. absurd (true≢false (sym z ∙ e));
+      }
+
+  pub answered-on : Answered f c (s ++ t) st₂ (tk₁ + tk₂) c₂ f₂
+  answered-on = go (bad (view c f)) refl
+    where
+      go : (b : Bool) → bad (view c f) ≡ b → Answered f c (s ++ t) st₂ (tk₁ + tk₂) c₂ f₂
+      go true e = both-bad e
+      go false e = both-good e
+
+-- a stream's next n bytes, behind those before
+pub answered-next : (f : List ℕ) (c : Counts) (s : List ℕ) (at n : ℕ) (st₁ tk₁ : ℕ) (c₁ : Counts) (f₁ : List ℕ) (st₂ tk₂ : ℕ) (c₂ : Counts) (f₂ : List ℕ)
+    → Answered f c (take at s) st₁ tk₁ c₁ f₁ → Answered f₁ c₁ (take n (drop at s)) st₂ tk₂ c₂ f₂ → Answered f c (take (at + n) s) st₂ (tk₁ + tk₂) c₂ f₂
+answered-next f c s at n st₁ tk₁ c₁ f₁ st₂ tk₂ c₂ f₂ a b =
+    rw (take-add at n s) (answered-on f c (take at s) (take n (drop at s)) st₁ tk₁ c₁ f₁ st₂ tk₂ c₂ f₂ a b)
+
+-- ---- one push after the other
+
+fed-answers : (s : List ℕ) (ss : List (List ℕ)) (c : Counts) (f : List ℕ) (st tk : ℕ) (c′ : Counts) (f′ : List ℕ) → Fed s ss c f st tk c′ f′
+    → _≡_ {A = Answer} (record { reader = view c′ f′; status = st; took = tk }) (answers (view c f) s ss)
+unfolding answers
+fed-answers s [] c f st tk c′ f′ a = a .by-rule
+fed-answers s (t ∷ ts) c f st tk c′ f′ (c₁, f₁, st₁, tk₁, a, more) =
+    fed-answers t ts c₁ f₁ st tk c′ f′ more ∙ ap (λ (x : Answer). answers (x .reader) t ts) (a .by-rule)
+
+-- a new reader is a fresh one
+pub view-fresh : (command wanted : ℕ) (f : List ℕ) → view (freshCounts command wanted) f ≡ fresh (config command wanted)
+unfolding view chop front
+view-fresh command wanted f = refl
+
+-- DEMAND 3, of the code: chunks pushed one after the other into a new reader, by any function that answers as `Answered` says
+pub fed-demand : (command wanted : ℕ) (f : List ℕ) (st tk : ℕ) (c′ : Counts) (f′ : List ℕ) (s : List ℕ) (ss : List (List ℕ)) → wanted ≤ 85
+    → Fed s ss (freshCounts command wanted) f st tk c′ f′ → Demand (config command wanted) (joined (s ∷ ss)) record { reader = view c′ f′; status = st; took = tk }
+fed-demand command wanted f st tk c′ f′ s ss m fed =
+    let q = fed-answers s ss (freshCounts command wanted) f st tk c′ f′ fed in
+    rw (q, view-fresh command wanted f) (cuts-dont-matter (config command wanted) m s ss)

@@ -1,0 +1,68 @@
+use Prim.Native.Nat.{_≤_, _+_, _-_}
+use native.Mathlib.Omega.{arith}
+use borrow.Author.Needs.{needs}
+use lib.ListN.{length, drop, length-set}
+use lib.Seq.{paste, paste-zero}
+use Rattle.reader.proofs.Parts.{copy-step}
+use mathlib.Core.Path.{_≡_, refl, _∙_}
+use Rattle.reader.proofs.scan.copy.Statement.{statement}
+use Rattle.reader.proofs.scan.copy.Tie as tie
+
+abbrev Inv-loop : tie.InvT-loop
+Inv-loop to₀ start from at n i₀ to i = (i ≤ n) × (length to ≡ length to₀) × (to ≡ paste to₀ start (drop at from) i)
+
+abbrev μ-loop : tie.MeasureT-loop
+μ-loop to₀ start from at n i₀ to i = n - i
+
+loop-holds : tie.Need-loop-holds Inv-loop μ-loop
+loop-holds c = (omega arith, refl, paste-zero (c .args .to .now) (c .args .start) (drop (c .args .at) (c .args .from .now)))
+
+add-to : tie.Need-add-to Inv-loop μ-loop
+add-to c = search needs
+
+shared-slice-read-to : tie.Need-shared-slice-read-to Inv-loop μ-loop
+shared-slice-read-to c = search needs
+
+add-to-2 : tie.Need-add-to-2 Inv-loop μ-loop
+add-to-2 c = search needs
+
+slice-write-to : tie.Need-slice-write-to Inv-loop μ-loop
+slice-write-to c = search needs
+
+add-i : tie.Need-add-i Inv-loop μ-loop
+add-i c = search needs
+
+loop-less : tie.Need-loop-less Inv-loop μ-loop
+loop-less c = search needs
+
+loop-again : tie.Need-loop-again Inv-loop μ-loop
+loop-again c =
+    let b = c .before .before .before in
+    let l = c .before .before .loop in (
+      omega arith,
+      length-set (l .to) (b .args .start + l .i) _ ∙ l .inv .1,
+      copy-step (b .args .to .now) (b .args .from .now) (b .args .start) (b .args .at) (l .i) (l .to) (omega arith) (omega arith) (l .inv .2),
+    )
+
+same-length : tie.Need-same-length Inv-loop μ-loop
+same-length c = search needs
+
+returns : tie.Need-returns Inv-loop μ-loop
+returns c = let e : c .before .loop .i ≡ c .before .before .args .n = omega arith in rw e at (c .before .loop .inv .2)
+
+pub copy-spec : {M : Type 1} → statement M
+copy-spec =
+    tie.close
+    (tie.spec
+    Inv-loop
+    μ-loop
+    loop-holds
+    add-to
+    shared-slice-read-to
+    add-to-2
+    slice-write-to
+    add-i
+    loop-less
+    loop-again
+    same-length
+    returns)

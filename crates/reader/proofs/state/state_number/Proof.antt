@@ -1,0 +1,87 @@
+use borrow.Author.Needs.{needs}
+use Rattle.reader.proofs.Refusing.{numbered, too-full, too-many, too-far, empty, too-late, not-begun, begun}
+use mathlib.Core.Path.{_∙_}
+use Rattle.reader.proofs.state.state_number.Statement.{statement}
+use Rattle.reader.proofs.state.state_number.Tie as tie
+
+returns : tie.Need-returns
+returns c =
+    let a = c .before .before .args in too-full (a .c) (a .frames .now) (c .if1 .taken)
+
+returns-2 : tie.Need-returns-2
+returns-2 c =
+    let e₁ = c .before .before in
+    let a = e₁ .before .before .args in too-many (a .c) (a .frames .now) (e₁ .if1 .left) (c .if2 .taken)
+
+returns-3 : tie.Need-returns-3
+returns-3 c =
+    let e₂ = c .before .before in
+    let e₁ = e₂ .before .before in
+    let a = e₁ .before .before .args in too-far (a .c) (a .frames .now) (e₁ .if1 .left) (e₂ .if2 .left) (c .if3 .taken)
+
+unmarked-requires : tie.Need-unmarked-requires
+unmarked-requires c κs = search needs
+
+returns-4 : tie.Need-returns-4
+returns-4 c =
+    let e₃ = c .before .before .before in
+    let e₂ = e₃ .before .before in
+    let e₁ = e₂ .before .before in
+    let a = e₁ .before .before .args in
+    c .unmarked .ensures
+    ∙ numbered (empty (a .c) (a .frames .now) (e₁ .if1 .left) (e₂ .if2 .left) (e₃ .if3 .left) (c .before .if4 .taken))
+
+returns-5 : tie.Need-returns-5
+returns-5 c =
+    let e₄ = c .before .before in
+    let e₃ = e₄ .before .before in
+    let e₂ = e₃ .before .before in
+    let e₁ = e₂ .before .before in
+    let a = e₁ .before .before .args in too-late (a .c) (a .frames .now) (e₁ .if1 .left) (e₂ .if2 .left) (e₃ .if3 .left) (e₄ .if4 .left) (c .if5 .taken)
+
+mul-first : tie.Need-mul-first
+mul-first c = search needs
+
+element-copy-out-if6 : tie.Need-element-copy-out-if6
+element-copy-out-if6 c = search needs
+
+returns-6 : tie.Need-returns-6
+returns-6 c =
+    let e₅ = c .before .before .before in
+    let e₄ = e₅ .before .before in
+    let e₃ = e₄ .before .before in
+    let e₂ = e₃ .before .before in
+    let e₁ = e₂ .before .before in
+    let a = e₁ .before .before .args in
+    not-begun (a .c) (a .frames .now) (e₁ .if1 .left) (e₂ .if2 .left) (e₃ .if3 .left) (e₄ .if4 .left) (e₅ .if5 .left) (c .if6 .taken)
+
+unmarked-requires-2 : tie.Need-unmarked-requires-2
+unmarked-requires-2 c κs = search needs
+
+returns-7 : tie.Need-returns-7
+returns-7 c =
+    let e₅ = c .before .before .before .before in
+    let e₄ = e₅ .before .before in
+    let e₃ = e₄ .before .before in
+    let e₂ = e₃ .before .before in
+    let e₁ = e₂ .before .before in
+    let a = e₁ .before .before .args in
+    c .unmarked2 .ensures
+    ∙ numbered
+    (begun (a .c) (a .frames .now) (e₁ .if1 .left) (e₂ .if2 .left) (e₃ .if3 .left) (e₄ .if4 .left) (e₅ .if5 .left) (c .before .if6 .left))
+
+pub state-number-spec : {M : Type 1} → statement M
+state-number-spec =
+    tie.close
+    (tie.spec
+    returns
+    returns-2
+    returns-3
+    unmarked-requires
+    returns-4
+    returns-5
+    mul-first
+    element-copy-out-if6
+    returns-6
+    unmarked-requires-2
+    returns-7)

@@ -1,0 +1,33 @@
+-- What a new reader, `missing` and `is_complete` answer. Definitions only.
+use Prim.Native.Nat.{ℕ}
+use mathlib.Core.Bool.{false}
+use mathlib.Core.List.{List}
+use lib.ListN.{replicate}
+use Rattle.frame.specs.Refusals.{checkNumber}
+use Rattle.rules.specs.Rules.{Config}
+use Rattle.rules.specs.Reader.{Reader, newCheck, newConfig, missing, completeness, stateNumber}
+use Rattle.reader.specs.declared.Counts.{Counts}
+use Rattle.reader.specs.declared.FrameReader.{FrameReader}
+use Rattle.reader.specs.declared.Opened.{Opened}
+use Rattle.reader.specs.declared.Missing.{Missing}
+use Rattle.reader.specs.declared.Completed.{Completed}
+
+abbrev pub freshCounts : ℕ → ℕ → Counts
+freshCounts command wanted =
+    record { command = command; mark = false; taken = 0; discarded = 0; cleared = 0; wanted = wanted; collected = 0; held = 0 }
+
+abbrev pub freshReader : ℕ → ℕ → FrameReader
+freshReader command wanted = record { counts = freshCounts command wanted; frames = replicate 1105 0 }
+
+-- "A refused new reader is all zero and wants 0 frames"
+abbrev pub opened : List ℕ → ℕ → Opened
+opened request size =
+    let c : Config = newConfig (newCheck request size) request size in
+    record { number = checkNumber (newCheck request size); reader = freshReader (c .command) (c .wanted) }
+
+-- "`missing` then answers 0 and completeness no, both with 8"
+abbrev pub missingTold : Reader → Missing
+missingTold r = record { number = stateNumber r; missing = missing r }
+
+abbrev pub completeTold : Reader → Completed
+completeTold r = record { number = stateNumber r; complete = completeness r }

@@ -1,0 +1,275 @@
+// The reader of a reply's frames: the rules of the crate `rules`, on bytes that come in any chunks.
+ghost use mathlib.Core.Path.{_≡_};
+ghost use Prim.Native.Nat.{_≤_, _<_};
+ghost use lib.ListN.{length};
+ghost use Rattle.rules.specs.Reader.{copyCheck, joined};
+ghost use Rattle.list.specs.Listed.{Decodes};
+ghost use Rattle.reader.specs.View.{view, Answered};
+ghost use Rattle.reader.specs.Told.{opened, freshReader, missingTold, completeTold};
+use frame::Refusal;
+use list::Listed;
+
+mod moves;
+mod scan;
+mod state;
+
+// A reader's numbers: what it was asked for, what it has counted, and how much of its array is in use.
+#[repr(C)]
+pub struct Counts {
+    pub command: u8,
+    pub mark: bool,
+    pub taken: u32,
+    pub discarded: u32,
+    pub cleared: u32,
+    pub wanted: usize,
+    pub collected: usize,
+    pub held: usize,
+}
+
+// The collected frames stand at the start of `frames`, and the bytes held right behind them.
+#[repr(C)]
+pub struct FrameReader {
+    pub counts: Counts,
+    pub frames: [u8; 1105],
+}
+
+// A new reader, and 0, 6 or 7.
+#[repr(C)]
+pub struct Opened {
+    pub number: u8,
+    pub reader: FrameReader,
+}
+
+// What a push says: 0, 2 or 8, and how many bytes of the chunk it took.
+#[repr(C)]
+pub struct Said {
+    pub status: u8,
+    pub took: usize,
+}
+
+// What it answers beside the frames, where those are lent.
+#[repr(C)]
+pub struct Told {
+    pub said: Said,
+    pub counts: Counts,
+}
+
+// What it answers by value.
+#[repr(C)]
+pub struct Pushed {
+    pub said: Said,
+    pub reader: FrameReader,
+}
+
+// 0 or 8, and the bytes that the next frame still needs.
+#[repr(C)]
+pub struct Missing {
+    pub number: u8,
+    pub missing: usize,
+}
+
+// 0 or 8, and whether all wanted frames are there.
+#[repr(C)]
+pub struct Completed {
+    pub number: u8,
+    pub complete: bool,
+}
+
+// A push on the frames, lent, and the numbers by value: the core, which copies no frame that it does not collect.
+pub fn push_into(frames: &mut [u8; 1105], counts: Counts, chunk: &[u8]) -> Told
+    ensures { λ r. ⌜ Answered (now (frames .entry)) counts (now (chunk .entry)) (r .said .status) (r .said .took) (r .counts) (now (frames .exit)) ⌝ }
+{
+    if state::state_number(frames, counts) != 0 {
+        return Told {
+            said: Said { status: 8, took: 0 },
+            counts: counts,
+        };
+    }
+    let m = moves::advance(
+        frames,
+        counts.held,
+        chunk,
+        counts.command,
+        counts.wanted,
+        counts.collected,
+        counts.cleared,
+    );
+    let mark = state::passed(counts.mark, counts.discarded, m.lost);
+    let taken = std::num::wrapping_add_u32(counts.taken, state::low32(m.took));
+    let discarded = std::num::wrapping_add_u32(counts.discarded, state::low32(m.lost));
+    let next = Counts {
+        command: counts.command,
+        mark: mark,
+        taken: taken,
+        discarded: discarded,
+        cleared: m.cleared,
+        wanted: counts.wanted,
+        collected: m.collected,
+        held: m.held,
+    };
+    Told {
+        said: Said {
+            status: state::status_of(mark),
+            took: m.took,
+        },
+        counts: next,
+    }
+}
+
+// How long the next chunk is, of the bytes left: `size`, but at least one and at most all of them.
+fn chunk_size(size: usize, left: usize) -> usize
+    ensures { λ r. ⌜ (r ≤ left) × (0 < left → 0 < r) ⌝ }
+{
+    if left <= size {
+        return left;
+    }
+    if size == 0 {
+        return 1;
+    }
+    size
+}
+
+// A stream pushed in chunks of `size` bytes (0 counts as 1). Its answer is that of one push of the whole stream: `size` is not in the statement.
+pub fn push_in_chunks(frames: &mut [u8; 1105], counts: Counts, stream: &[u8], size: usize) -> Told
+    ensures { λ r. ⌜ Answered (now (frames .entry)) counts (now (stream .entry)) (r .said .status) (r .said .took) (r .counts) (now (frames .exit)) ⌝ }
+{
+    let mut at = chunk_size(size, stream.len());
+    let first = push_into(frames, counts, &stream[..at]);
+    let mut status = first.said.status;
+    let mut took = first.said.took;
+    let mut c = first.counts;
+    while at < stream.len() {
+        let n = chunk_size(size, stream.len() - at);
+        let t = push_into(frames, c, &stream[at..at + n]);
+        status = t.said.status;
+        took += t.said.took;
+        c = t.counts;
+        at += n;
+    }
+    Told {
+        said: Said {
+            status: status,
+            took: took,
+        },
+        counts: c,
+    }
+}
+
+// A reader that has taken nothing.
+fn fresh(command: u8, wanted: usize) -> FrameReader
+    ensures { λ r. ⌜ r ≡ freshReader command wanted ⌝ }
+{
+    FrameReader {
+        counts: Counts {
+            command: command,
+            mark: false,
+            taken: 0,
+            discarded: 0,
+            cleared: 0,
+            wanted: wanted,
+            collected: 0,
+            held: 0,
+        },
+        frames: [0u8; 1105],
+    }
+}
+
+impl FrameReader {
+    // A reader for the reply to `request`, which is `reply_size` bytes long.
+    pub fn new(request: &[u8], reply_size: usize) -> Opened
+        ensures { λ r. ⌜ r ≡ opened (now (request .entry)) «reply_size» ⌝ }
+    {
+        if request.len() < 3 {
+            let zero = fresh(0, 0);
+            return Opened {
+                number: Refusal::RequestTooShort.number(),
+                reader: zero,
+            };
+        }
+        if 1105 < reply_size {
+            let zero = fresh(0, 0);
+            return Opened {
+                number: Refusal::ReplyTooLong.number(),
+                reader: zero,
+            };
+        }
+        let reader = fresh(request[2], (reply_size + 12) / 13);
+        Opened {
+            number: 0,
+            reader: reader,
+        }
+    }
+
+    // The push by value.
+    pub fn push(self, chunk: &[u8]) -> Pushed
+        ensures { λ r. ⌜ Answered (self .frames) (self .counts) (now (chunk .entry)) (r .said .status) (r .said .took) (r .reader .counts) (r .reader .frames) ⌝ }
+    {
+        let mut out = self;
+        let t = push_into(&mut out.frames, self.counts, chunk);
+        let counts = t.counts;
+        out.counts = counts;
+        let said = t.said;
+        Pushed {
+            said: said,
+            reader: out,
+        }
+    }
+
+    // How many bytes the next frame still needs.
+    pub fn missing(self) -> Missing
+        ensures { λ r. ⌜ r ≡ missingTold (view (self .counts) (self .frames)) ⌝ }
+    {
+        let c = self.counts;
+        let number = state::state_number(&self.frames, c);
+        if number != 0 {
+            return Missing {
+                number: number,
+                missing: 0,
+            };
+        }
+        if c.wanted <= c.collected {
+            return Missing {
+                number: 0,
+                missing: 0,
+            };
+        }
+        Missing {
+            number: 0,
+            missing: 13 - c.held,
+        }
+    }
+
+    // Whether all wanted frames are collected.
+    pub fn is_complete(self) -> Completed
+        ensures { λ r. ⌜ r ≡ completeTold (view (self .counts) (self .frames)) ⌝ }
+    {
+        let c = self.counts;
+        let number = state::state_number(&self.frames, c);
+        if number != 0 {
+            return Completed {
+                number: number,
+                complete: false,
+            };
+        }
+        Completed {
+            number: 0,
+            complete: c.wanted <= c.collected,
+        }
+    }
+
+    // The collected frames, one after the other, into `out`.
+    pub fn copy_out(self, out: &mut [u8]) -> Listed
+        ensures { λ r. ⌜ Decodes (copyCheck (view (self .counts) (self .frames)) (length (now (out .entry)))) (joined (view (self .counts) (self .frames) .collected)) (now (out .entry)) r (now (out .exit)) ⌝ }
+    {
+        let c = self.counts;
+        if state::state_number(&self.frames, c) != 0 {
+            return Listed::NotStored(Refusal::BadState);
+        }
+        let n = 13 * c.collected;
+        if out.len() < n {
+            return Listed::NotStored(Refusal::NoRoom);
+        }
+        scan::copy(out, 0, &self.frames, 0, n);
+        Listed::Stored(n)
+    }
+}

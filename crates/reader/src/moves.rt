@@ -1,0 +1,156 @@
+// A push's way over its chunk: held bytes and the first of the chunk meet in a small bridge, the rest is scanned where it lies.
+ghost use mathlib.Core.Path.{_≡_};
+ghost use mathlib.Core.List.{_++_};
+ghost use Prim.Native.Nat.{_+_, _*_, _<_, _≤_};
+ghost use lib.ListN.{length, take, drop, getD};
+ghost use Rattle.rules.specs.Ledger.{run};
+ghost use Rattle.reader.specs.View.{config, chop, front};
+ghost use Rattle.reader.specs.Steps.{Moves};
+use crate::scan::copy;
+use crate::scan::scan;
+
+// What a push came to: the bytes taken and discarded, the frames collected, the count of frames cleared, the bytes held.
+pub struct Moved {
+    pub took: usize,
+    pub lost: usize,
+    pub collected: usize,
+    pub cleared: u32,
+    pub held: usize,
+}
+
+fn least(a: usize, b: usize) -> usize
+    ensures { λ r. ⌜ (r ≤ a) × (r ≤ b) × (r < a → r ≡ b) ⌝ }
+{
+    if a < b { a } else { b }
+}
+
+// The bytes of s from `at` on, at most 12, are held behind the collected frames.
+fn hold(s: &[u8], at: usize, frames: &mut [u8; 1105], collected: usize) -> usize
+    requires { ⌜ (at ≤ length (now s)) × (length (now s) ≤ at + 12) × (collected < 85) ⌝ }
+    ensures { λ r. ⌜ (drop at (now (s .entry)) ≡ front r (drop (13 * collected) (now (frames .exit)))) × (chop collected (now (frames .entry)) ≡ chop collected (now (frames .exit))) ⌝ }
+{
+    let n = s.len() - at;
+    copy(frames, 13 * collected, s, at, n);
+    n
+}
+
+// The chunk alone, from `at` on.
+fn direct(
+    frames: &mut [u8; 1105],
+    chunk: &[u8],
+    at: usize,
+    command: u8,
+    wanted: usize,
+    collected: usize,
+    count: u32,
+) -> Moved
+    requires { ⌜ (at ≤ length (now chunk)) × (collected ≤ wanted) × (wanted ≤ 85) ⌝ }
+    ensures { λ r. ⌜ Moves (config command wanted) (run (config command wanted) (chop collected (now (frames .entry))) (drop at (now (chunk .entry)))) count (now (chunk .entry)) (now (frames .exit)) r × (r .lost ≤ length (now (chunk .entry))) ⌝ }
+{
+    let p = scan(chunk, at, frames, command, wanted, collected, count);
+    let stop = p.at;
+    let have = p.collected;
+    if wanted <= have {
+        return Moved {
+            took: stop,
+            lost: p.lost,
+            collected: have,
+            cleared: p.cleared,
+            held: 0,
+        };
+    }
+    let k = hold(chunk, stop, frames, have);
+    Moved {
+        took: chunk.len(),
+        lost: p.lost,
+        collected: have,
+        cleared: p.cleared,
+        held: k,
+    }
+}
+
+// The bytes held behind the collected frames, and after them up to 12 of the chunk, are put into w: 12 places are
+// copied whatever is held, since a copy of known length is quicker.
+fn bridge(
+    frames: &[u8; 1105],
+    collected: usize,
+    held: usize,
+    chunk: &[u8],
+    w: &mut [u8; 24],
+) -> usize
+    requires { ⌜ (held ≤ 12) × (collected < 85) ⌝ }
+    ensures { λ r. ⌜ (take r (now (w .exit)) ≡ front held (drop (13 * collected) (now (frames .entry))) ++ take 12 (now (chunk .entry))) × (length (now (w .exit)) ≡ 24) × (r ≤ 24) ⌝ }
+{
+    let m = least(12, chunk.len());
+    copy(w, 0, frames, 13 * collected, 12);
+    copy(w, held, chunk, 0, m);
+    held + m
+}
+
+// With bytes held: they and the first 12 of the chunk are judged apart, and what is left of the chunk where it lies.
+fn bridged(
+    frames: &mut [u8; 1105],
+    held: usize,
+    chunk: &[u8],
+    command: u8,
+    wanted: usize,
+    collected: usize,
+    count: u32,
+) -> Moved
+    requires { ⌜ (held ≤ 12) × (collected < wanted) × (wanted ≤ 85) ⌝ }
+    ensures { λ r. ⌜ Moves (config command wanted) (run (config command wanted) (chop collected (now (frames .entry))) (front held (drop (13 * collected) (now (frames .entry))) ++ now (chunk .entry))) count (now (chunk .entry)) (now (frames .exit)) r ⌝ }
+{
+    let mut w = [0u8; 24];
+    let m = bridge(frames, collected, held, chunk, &mut w);
+    let p = scan(&w[..m], 0, frames, command, wanted, collected, count);
+    let stop = p.at;
+    let have = p.collected;
+    if stop < held {
+        let k = hold(&w[..m], stop, frames, have);
+        return Moved {
+            took: chunk.len(),
+            lost: p.lost,
+            collected: have,
+            cleared: p.cleared,
+            held: k,
+        };
+    }
+    let q = direct(frames, chunk, stop - held, command, wanted, have, p.cleared);
+    Moved {
+        took: q.took,
+        lost: p.lost + q.lost,
+        collected: q.collected,
+        cleared: q.cleared,
+        held: q.held,
+    }
+}
+
+// The chunk behind the bytes held.
+pub(crate) fn advance(
+    frames: &mut [u8; 1105],
+    held: usize,
+    chunk: &[u8],
+    command: u8,
+    wanted: usize,
+    collected: usize,
+    count: u32,
+) -> Moved
+    requires { ⌜ (held ≤ 12) × (wanted ≤ 85) × (collected ≤ wanted) × (0 < held → collected < wanted) × (0 < held → getD (now frames) (13 * collected) 0 ≡ 0xA5) ⌝ }
+    ensures { λ r. ⌜ Moves (config command wanted) (run (config command wanted) (chop collected (now (frames .entry))) (front held (drop (13 * collected) (now (frames .entry))) ++ now (chunk .entry))) count (now (chunk .entry)) (now (frames .exit)) r ⌝ }
+{
+    if held == 0 {
+        return direct(frames, chunk, 0, command, wanted, collected, count);
+    }
+    let len = chunk.len();
+    if len < 13 - held {
+        copy(frames, 13 * collected + held, chunk, 0, len);
+        return Moved {
+            took: len,
+            lost: 0,
+            collected: collected,
+            cleared: count,
+            held: held + len,
+        };
+    }
+    bridged(frames, held, chunk, command, wanted, collected, count)
+}

@@ -1,0 +1,134 @@
+// The rules on the bytes of a slice, one turn after the other.
+ghost use mathlib.Core.Path.{_≡_};
+ghost use Prim.Native.Nat.{ℕ, _+_, _<_, _≤_};
+ghost use lib.ListN.{length, drop, getD};
+ghost use lib.Seq.{paste};
+ghost use Rattle.rules.specs.Rules.{judge, lost as lostOf, restarts, if_then_else_};
+ghost use Rattle.rules.specs.Ledger.{run};
+ghost use Rattle.reader.specs.View.{config, chop};
+ghost use Rattle.reader.specs.Steps.{Ran};
+
+// Where a scan has come to: the place in the slice, the bytes discarded, the frames collected, and the count of frames cleared.
+pub struct Progress {
+    pub at: usize,
+    pub lost: usize,
+    pub collected: usize,
+    pub cleared: u32,
+}
+
+// n bytes of `from`, from `at` on, go to `to` from `start` on.
+pub(crate) fn copy(to: &mut [u8], start: usize, from: &[u8], at: usize, n: usize)
+    requires { ⌜ (start + n ≤ length (now to)) × (at + n ≤ length (now from)) ⌝ }
+    ensures { λ r. ⌜ now (to .exit) ≡ paste (now (to .entry)) start (drop at (now (from .entry))) n ⌝ }
+{
+    let mut i: usize = 0;
+    while i < n {
+        to[start + i] = from[at + i];
+        i += 1;
+    }
+}
+
+// The first A5 of s from `from` on, or the length.
+fn start_from(s: &[u8], from: usize) -> usize
+    requires { ⌜ from ≤ length (now s) ⌝ }
+    ensures { λ r. ⌜ (from ≤ r) × (r ≤ length (now (s .entry))) × ((k : ℕ) → k < r → from ≤ k → getD (now (s .entry)) k 0 ≡ 0xA5 → ⊥) ⌝ }
+{
+    let mut i = from;
+    while i < s.len() {
+        if s[i] == 0xA5 {
+            return i;
+        }
+        i += 1;
+    }
+    i
+}
+
+// How many bytes of w, which are 13 and begin with A5, are discarded: 1, 13, or 0 where w is collected.
+fn discards(w: &[u8], command: u8, wanted: usize, have: usize) -> usize
+    requires { ⌜ (length (now w) ≡ 13) × (have < 85) ⌝ }
+    ensures { λ r. ⌜ (r ≡ lostOf (judge (config command wanted) have (now (w .entry)))) × (r ≤ 13) ⌝ }
+{
+    let sum = frame::calc_crc(w);
+    if w[12] != sum {
+        return 1;
+    }
+    if w[2] != command {
+        return 13;
+    }
+    if wanted <= 1 {
+        return 0;
+    }
+    let number = w[4];
+    if number == 1 {
+        return 0;
+    }
+    if number != (have + 1) as u8 {
+        return 13;
+    }
+    0
+}
+
+// How many of the collected frames stay when w is collected.
+fn staying(w: &[u8], wanted: usize, have: usize) -> usize
+    requires { ⌜ length (now w) ≡ 13 ⌝ }
+    ensures { λ r. ⌜ (r ≡ (if restarts (config 0 wanted) (now (w .entry)) then 0 else have)) × (r ≤ have) ⌝ }
+{
+    if wanted <= 1 {
+        return have;
+    }
+    if w[4] == 1 {
+        return 0;
+    }
+    have
+}
+
+// All turns on s from `from` on.
+pub(crate) fn scan(
+    s: &[u8],
+    from: usize,
+    frames: &mut [u8; 1105],
+    command: u8,
+    wanted: usize,
+    collected: usize,
+    count: u32,
+) -> Progress
+    requires { ⌜ (from ≤ length (now s)) × (collected ≤ wanted) × (wanted ≤ 85) ⌝ }
+    ensures { λ r. ⌜ Ran (run (config command wanted) (chop collected (now (frames .entry))) (drop from (now (s .entry)))) count wanted (now (s .entry)) (now (frames .exit)) r ⌝ }
+{
+    let end = s.len();
+    let mut at = from;
+    let mut lost: usize = 0;
+    let mut have = collected;
+    let mut cleared = count;
+    while at < end {
+        if wanted <= have {
+            break;
+        }
+        if s[at] != 0xA5 {
+            let next = start_from(s, at + 1);
+            lost += next - at;
+            at = next;
+        } else {
+            if end - at < 13 {
+                break;
+            }
+            let d = discards(&s[at..at + 13], command, wanted, have);
+            if d == 0 {
+                let k = staying(&s[at..at + 13], wanted, have);
+                copy(frames, 13 * k, s, at, 13);
+                cleared = std::num::wrapping_add_u32(cleared, (have - k) as u32);
+                have = k + 1;
+                at += 13;
+            } else {
+                lost += d;
+                at += d;
+            }
+        }
+    }
+    Progress {
+        at: at,
+        lost: lost,
+        collected: have,
+        cleared: cleared,
+    }
+}

@@ -1,0 +1,76 @@
+// Refusal 8, the mark and the status: what a push tests before it moves and books afterwards.
+ghost use mathlib.Core.Path.{_≡_};
+ghost use mathlib.Core.Bool.{not, _&&_, _||_};
+ghost use Prim.Native.Nat.{_+_, _%_};
+ghost use lib.Dec.{ltb};
+ghost use Rattle.frame.specs.declared.Refusal.the-variants.{BadState};
+ghost use Rattle.frame.specs.declared.Check.the-variants.{Sound};
+ghost use Rattle.frame.specs.Refusals.{checkNumber, refuse};
+ghost use Rattle.rules.specs.Rules.{if_then_else_};
+ghost use Rattle.rules.specs.Reader.{stateNumber};
+ghost use Rattle.reader.specs.View.{view};
+use crate::Counts;
+
+// 8 for a count over 512 without the mark.
+fn unmarked(discarded: u32, mark: bool) -> u8
+    ensures { λ r. ⌜ r ≡ checkNumber (refuse (ltb 512 discarded && not mark) BadState Sound) ⌝ }
+{
+    if discarded <= 512 {
+        return 0;
+    }
+    if mark {
+        return 0;
+    }
+    8
+}
+
+// 8 for a reader that no push can have made, else 0.
+pub(crate) fn state_number(frames: &[u8; 1105], c: Counts) -> u8
+    ensures { λ r. ⌜ r ≡ stateNumber (view c (now (frames .entry))) ⌝ }
+{
+    if 12 < c.held {
+        return 8;
+    }
+    if 85 < c.wanted {
+        return 8;
+    }
+    if c.wanted < c.collected {
+        return 8;
+    }
+    if c.held == 0 {
+        return unmarked(c.discarded, c.mark);
+    }
+    if c.wanted <= c.collected {
+        return 8;
+    }
+    let first = 13 * c.collected;
+    if frames[first] != 0xA5 {
+        return 8;
+    }
+    unmarked(c.discarded, c.mark)
+}
+
+pub(crate) fn low32(x: usize) -> u32
+    ensures { λ r. ⌜ r ≡ x % 4294967296 ⌝ }
+{
+    (x % 0x1_0000_0000) as u32
+}
+
+// The mark after a push that discarded `lost` bytes; no sum here can wrap.
+pub(crate) fn passed(mark: bool, before: u32, lost: usize) -> bool
+    ensures { λ r. ⌜ r ≡ (mark || ltb 512 (before + lost)) ⌝ }
+{
+    if mark {
+        return true;
+    }
+    if 512 < lost {
+        return true;
+    }
+    512 < before as usize + lost
+}
+
+pub(crate) fn status_of(mark: bool) -> u8
+    ensures { λ r. ⌜ r ≡ (if mark then 2 else 0) ⌝ }
+{
+    if mark { 2 } else { 0 }
+}

@@ -1,0 +1,84 @@
+-- Worked streams, by computation: document 01's example, P11, P12, P13, and one for each rule that no theorem of demand 3 would miss.
+use mathlib.Core.Path.{_≡_, refl}
+use mathlib.Core.Bool.{Bool, true, false}
+use mathlib.Core.List.{List, [], _∷_, _++_}
+use Prim.Native.Nat.{ℕ}
+use lib.ListN.{replicate}
+use Rattle.frame.specs.Frame.{total, sum}
+use Rattle.rules.specs.Rules.{Config, sumRight, restarts, judge, look, stay, after, drops}
+use Rattle.rules.specs.Ledger.{turns, run, total as counted}
+use Rattle.rules.specs.Reader.{Answer, fresh, complete, heldOf, untaken, did, booked, push, status, bad, answer}
+
+-- an answer, field by field
+abbrev pub answered : Config → ℕ → ℕ → List (List ℕ) → List ℕ → ℕ → ℕ → ℕ → Bool → Answer
+answered c status took frames held taken discarded cleared mark =
+    record {
+      reader = record { config = c; collected = frames; held = held; taken = taken; discarded = discarded; cleared = cleared; mark = mark };
+      status = status;
+      took = took;
+    }
+
+abbrev pub c90 : Config
+c90 = record { command = 0x90; wanted = 1 }
+
+-- its number is 2, which a reader of one frame does not read
+abbrev pub frame90 : List ℕ
+frame90 = 0xA5 ∷ 0x01 ∷ 0x90 ∷ 0x08 ∷ 0x02 ∷ 0x0B ∷ 0x00 ∷ 0x00 ∷ 0x74 ∷ 0xB7 ∷ 0x03 ∷ 0x6A ∷ 0xE3 ∷ []
+
+-- "reply 90 taken 15 held 0 frames 1 discarded 2 cleared 0": after the wrong sum one byte is discarded, not 13
+pub line90 : answer (fresh c90) (0 ∷ 0xA5 ∷ frame90) ≡ answered c90 0 15 (frame90 ∷ []) [] 15 2 0 false
+unfolding answer bad status push did run turns look judge restarts sumRight sum total after drops stay booked counted complete heldOf untaken
+line90 = refl
+
+-- the bytes behind it are left to the caller
+pub line90-more : answer (fresh c90) (frame90 ++ frame90) ≡ answered c90 0 13 (frame90 ∷ []) [] 13 0 0 false
+unfolding answer bad status push did run turns look judge restarts sumRight sum total after drops stay booked counted complete heldOf untaken
+line90-more = refl
+
+-- a wrong command: 13 bytes are discarded, an A5 among them too, and the frame behind them is collected
+abbrev pub other : List ℕ
+other = 0xA5 ∷ 0x01 ∷ 0x91 ∷ 0x08 ∷ 0xA5 ∷ 0 ∷ 0 ∷ 0 ∷ 0 ∷ 0 ∷ 0 ∷ 0 ∷ 0xE4 ∷ []
+
+pub wrong-command : answer (fresh c90) (other ++ frame90) ≡ answered c90 0 26 (frame90 ∷ []) [] 26 13 0 false
+unfolding answer bad status push did run turns look judge restarts sumRight sum total after drops stay booked counted complete heldOf untaken
+wrong-command = refl
+
+abbrev pub numbered : ℕ → ℕ → List ℕ
+numbered i s = 0xA5 ∷ 0x01 ∷ 0x95 ∷ 0x08 ∷ i ∷ 0 ∷ 0 ∷ 0 ∷ 0 ∷ 0 ∷ 0 ∷ 0 ∷ s ∷ []
+
+abbrev pub c95 : Config
+c95 = record { command = 0x95; wanted = 3 }
+
+abbrev pub f1 : List ℕ
+f1 = numbered 1 0x44
+
+abbrev pub f2 : List ℕ
+f2 = numbered 2 0x45
+
+abbrev pub f3 : List ℕ
+f3 = numbered 3 0x46
+
+-- P11: frames 1, 2, 1, 2, 3
+pub p11 : answer (fresh c95) (f1 ++ f2 ++ f1 ++ f2 ++ f3) ≡ answered c95 0 65 (f1 ∷ f2 ∷ f3 ∷ []) [] 65 0 2 false
+unfolding answer bad status push did run turns look judge restarts sumRight sum total after drops stay booked counted complete heldOf untaken
+p11 = refl
+
+-- a wrong number: 13 bytes are discarded, and what was collected stays
+pub wrong-number : answer (fresh c95) (f1 ++ f3 ++ f2) ≡ answered c95 0 39 (f1 ∷ f2 ∷ []) [] 39 13 0 false
+unfolding answer bad status push did run turns look judge restarts sumRight sum total after drops stay booked counted complete heldOf untaken
+wrong-number = refl
+
+-- twelve bytes are held
+pub twelve : answer (fresh c90) (replicate 12 0xA5) ≡ answered c90 0 12 [] (replicate 12 0xA5) 12 0 0 false
+unfolding answer bad status push did run turns look judge restarts sumRight sum total after drops stay booked counted complete heldOf untaken
+twelve = refl
+
+-- P12: 512 zero bytes, then the wanted frame
+pub p12 : answer (fresh c90) (replicate 512 0 ++ frame90) ≡ answered c90 0 525 (frame90 ∷ []) [] 525 512 0 false
+unfolding answer bad status push did run turns look judge restarts sumRight sum total after drops stay booked counted complete heldOf untaken
+p12 = refl
+
+-- P13: 513
+pub p13 : answer (fresh c90) (replicate 513 0 ++ frame90) ≡ answered c90 2 526 (frame90 ∷ []) [] 526 513 0 true
+unfolding answer bad status push did run turns look judge restarts sumRight sum total after drops stay booked counted complete heldOf untaken
+p13 = refl

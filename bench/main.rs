@@ -1,7 +1,11 @@
 //! The port's time as a part of the Rust's: below 1 is faster. The best of several rounds of each,
 //! taken in turns, so that both meet the same machine. Lent buffers are not cleared between calls.
 
+mod frames;
+mod reader;
+
 use dalybms_lib::protocol::*;
+use frames::reply;
 use std::hint::black_box;
 use std::time::Instant;
 
@@ -68,20 +72,6 @@ fn compare(name: &str, mut rust: impl FnMut(), mut port: impl FnMut()) {
     }
     let ratio = best_port / best_rust;
     println!("{name:<28} {best_rust:>9.1} {best_port:>9.1} {ratio:>7.2}");
-}
-
-/// `frames` right frames, numbered from 1; `first` is byte 4 of a single one.
-fn reply(command: u8, frames: usize, first: Option<u8>) -> Vec<u8> {
-    let mut bytes = Vec::new();
-    for k in 0..frames {
-        let mut frame = [(k * 37 + 11) as u8; 13];
-        frame[0] = 0xA5;
-        frame[2] = command;
-        frame[4] = first.unwrap_or(k as u8 + 1);
-        frame[12] = frame[..12].iter().fold(0, |sum, b| b.wrapping_add(sum));
-        bytes.extend(frame);
-    }
-    bytes
 }
 
 fn requests() {
@@ -202,6 +192,9 @@ fn bits() {
 }
 
 fn main() {
+    if std::env::args().nth(1).as_deref() == Some("reader") {
+        return reader::table();
+    }
     println!(
         "{:<28} {:>9} {:>9} {:>7}",
         "nanoseconds a call", "Rust", "port", "ratio"
@@ -210,4 +203,8 @@ fn main() {
     one_frame();
     numbered();
     bits();
+    println!();
+    reader::table();
+    println!();
+    reader::flat();
 }

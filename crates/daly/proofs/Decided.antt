@@ -1,6 +1,8 @@
 -- Each contract of the crate allows one answer. Assumes nothing.
 use denote.Ref.{now}
 use Rattle.wire.proofs.Decides.{Decides, same, both}
+use Rattle.reader.specs.View.{view}
+use Rattle.reader.proofs.Promise.{told, told-once, pushed-once}
 use Rattle.daly.proofs.Asked.{pinned}
 use Rattle.daly.proofs.Told.{tells-one}
 use Rattle.daly.proofs.daly_calc_crc.Reads as daly-calc-crc
@@ -22,6 +24,12 @@ use Rattle.daly.proofs.lists.daly_cell_millivolts.Reads as daly-cell-mi
 use Rattle.daly.proofs.lists.daly_cell_temperatures.Reads as daly-cell-temperatures
 use Rattle.daly.proofs.lists.daly_cell_balance_state.Reads as daly-cell-balance-state
 use Rattle.daly.proofs.lists.daly_error_codes.Reads as daly-error-codes
+use Rattle.daly.proofs.readers.daly_reader_new.Reads as daly-reader-new
+use Rattle.daly.proofs.readers.daly_reader_push.Reads as daly-reader-push
+use Rattle.daly.proofs.readers.daly_push_into.Reads as daly-push-into
+use Rattle.daly.proofs.readers.daly_reader_missing.Reads as daly-reader-missing
+use Rattle.daly.proofs.readers.daly_reader_is_complete.Reads as daly-reader-is-complete
+use Rattle.daly.proofs.readers.daly_reader_copy_out.Reads as daly-reader-copy-out
 
 daly-calc-crc-decides : Decides daly-calc-crc.Post (λ κs r s. r)
 daly-calc-crc-decides κs a x y s t = same
@@ -80,3 +88,22 @@ daly-cell-balance-state-decides κs a x y s t = tells-one
 
 daly-error-codes-decides : Decides daly-error-codes.Post (λ κs r s. both r (now (s .1 .0)))
 daly-error-codes-decides κs a x y s t = tells-one
+
+daly-reader-new-decides : Decides daly-reader-new.Post (λ κs r s. r)
+daly-reader-new-decides κs a x y s t = same
+
+-- of a push all but the places of the array that no one sees
+daly-reader-push-decides : Decides daly-reader-push.Post (λ κs r s. both (told r) (view (r .reader .counts) (r .reader .frames)))
+daly-reader-push-decides κs a x y s t = pushed-once
+
+daly-push-into-decides : Decides daly-push-into.Post (λ κs r s. both r (view (r .counts) (now (s .0))))
+daly-push-into-decides κs a x y s t = told-once
+
+daly-reader-missing-decides : Decides daly-reader-missing.Post (λ κs r s. r)
+daly-reader-missing-decides κs a x y s t = same
+
+daly-reader-is-complete-decides : Decides daly-reader-is-complete.Post (λ κs r s. r)
+daly-reader-is-complete-decides κs a x y s t = same
+
+daly-reader-copy-out-decides : Decides daly-reader-copy-out.Post (λ κs r s. both r (now (s .1 .0)))
+daly-reader-copy-out-decides κs a x y s t = tells-one

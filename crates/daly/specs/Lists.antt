@@ -15,6 +15,7 @@ use Rattle.list.specs.Listed.{answerOf, after}
 use Rattle.list.specs.Cells.{voltageAt, millivoltsAt, temperatureAt, voltagesCheck, temperaturesCheck}
 use Rattle.flags.specs.Balance.{flagCount, flagAt, balanceCheck}
 use Rattle.flags.specs.Faults.{faults, faultsCheck}
+use Rattle.rules.specs.Reader.{Reader, copyCheck, joined}
 use Rattle.daly.specs.declared.lists.ListTold.{ListTold}
 
 -- 0 and how many values, or the refusal's number and none
@@ -42,3 +43,7 @@ TellsBalance s n out r exit = Tells (balanceCheck s n (length out)) (firsts (fla
 
 abbrev pub TellsFaults : List ℕ → List ℕ → ListTold → List ℕ → Type 0
 TellsFaults s out r exit = Tells (faultsCheck s (length out)) (faults s) out r exit
+
+-- of a reader: its collected frames, one after the other
+abbrev pub TellsCollected : Reader → List ℕ → ListTold → List ℕ → Type 0
+TellsCollected reader out r exit = Tells (copyCheck reader (length out)) (joined (reader .collected)) out r exit

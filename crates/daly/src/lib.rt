@@ -5,6 +5,7 @@ ghost use Rattle.frame.specs.Checks.{sumOf, frameCheck, partCheck};
 ghost use Rattle.daly.specs.Requests.{Requests};
 
 mod lists;
+mod readers;
 mod readings;
 
 #[no_mangle]

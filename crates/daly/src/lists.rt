@@ -10,7 +10,7 @@ pub struct ListTold {
     pub count: usize,
 }
 
-fn told(listed: Listed) -> ListTold
+pub(crate) fn told(listed: Listed) -> ListTold
     ensures { λ r. ⌜ r ≡ listTold listed ⌝ }
 {
     match listed {

@@ -6,3 +6,4 @@ pub mod Refusing
 pub mod Answer
 pub mod Asking
 pub mod Promise
+pub mod Decided

@@ -9,7 +9,7 @@ use native.Mathlib.Nat.{zero-add, suc-add, add-zero}
 use borrow.Author.Tests.{ltb-true, ltb-false}
 use lib.Dec.{ltb}
 use lib.ListN.{length, take, drop, getD, set, length-drop}
-use lib.Seq.{paste, paste-suc, length-paste, take-paste, length-take-le, take-all, take-at, drop-at, take-nil, drop-nil, drop-drop, take-add, getD-drop, getD-take, take-take, take-append-le}
+use lib.Seq.{paste, paste-zero, paste-suc, length-paste, take-paste, length-take-le, take-all, take-at, drop-at, take-nil, drop-nil, drop-drop, take-add, getD-drop, getD-take, take-take, take-append-le}
 use Rattle.rules.specs.Reader.{joined}
 use Rattle.reader.specs.View.{chop, front}
 
@@ -61,6 +61,10 @@ pub copy-step : (f s : List ℕ) (n a j : ℕ) (g : List ℕ) → n + j < length
 copy-step f s n a j g lf ls e =
     let l : j < length (drop a s) = omega (arith, length-drop a s) in
     rw (e, add-one, ← getD-drop a s j 0) (paste-suc f n (drop a s) j 0 lf l)
+
+-- one byte
+pub copy-one : (f s : List ℕ) (n a : ℕ) → n < length f → a < length s → set f n (getD s a 0) ≡ paste f n (drop a s) 1
+copy-one f s n a lf ls = rw (add-zero n, add-zero a) at (copy-step f s n a 0 f (omega arith) (omega arith) (paste-zero f n (drop a s)))
 
 -- the 13 bytes of s at `at`, and one of them
 abbrev pub window : List ℕ → ℕ → List ℕ
@@ -141,6 +145,27 @@ held-rest f s c at a b r =
     let top : take (13 * c) (paste f (13 * c) (drop at s) n) ≡ take (13 * c) f = rw z at (take-low (13 * c) 0 n f (drop at s) (omega arith)) in (
       front-rest (drop (13 * c) f) s at b (omega (arith, length-drop (13 * c) f)) ∙ ap (front n) (sym low),
       sym (chop-same c (paste f (13 * c) (drop at s) n) f top),
+    )
+
+-- of the bridge w its bytes from `at` up to m are held behind c frames, where 12 places are copied
+pub held-bridge : (f w : List ℕ) (c at m : ℕ) → 13 * c + 12 ≤ length f → at + 12 ≤ length w → at ≤ m → m ≤ at + 12
+    → (drop at (take m w) ≡ front (m - at) (drop (13 * c) (paste f (13 * c) (drop at w) 12))) × (chop c f ≡ chop c (paste f (13 * c) (drop at w) 12))
+held-bridge f w c at m a l b r =
+    let n : ℕ = m - at in
+    let g : List ℕ = drop at w in
+    let h : List ℕ = drop (13 * c) f in
+    let z : 13 * c + 0 ≡ 13 * c = omega arith in
+    let low : drop (13 * c) (paste f (13 * c) g 12) ≡ paste h 0 g 12 = rw z at (drop-low (13 * c) 0 12 f g (omega arith)) in
+    let top : take (13 * c) (paste f (13 * c) g 12) ≡ take (13 * c) f = rw z at (take-low (13 * c) 0 12 f g (omega arith)) in
+    let lg : 12 ≤ length g = omega (arith, length-drop at w) in
+    let lh : 12 ≤ length h = omega (arith, length-drop (13 * c) f) in
+    let lp : length (paste h 0 g 12) ≡ length h = length-paste h 0 g 12 (omega arith) lg in
+    let t : take 12 (paste h 0 g 12) ≡ take 12 g = take-paste h 0 g 12 (omega arith) lg in
+    let u : take n (paste h 0 g 12) ≡ take n g = sym (take-take n 12 (paste h 0 g 12) (omega arith)) ∙ ap (take n) t ∙ take-take n 12 g (omega arith) in
+    let q : at + n ≡ m = omega arith in
+    let v : drop at (take m w) ≡ take n g = ap (λ (k : ℕ). drop at (take k w)) (sym q) ∙ drop-take at n w in (
+      v ∙ sym u ∙ sym (front-take n (paste h 0 g 12) (omega arith)) ∙ ap (front n) (sym low),
+      sym (chop-same c (paste f (13 * c) g 12) f top),
     )
 
 -- t is held behind the h bytes held there

@@ -6,14 +6,18 @@ use Prim.Native.Nat.{ℕ, _+_, _*_, _≤_}
 use native.Mathlib.Omega.{arith}
 use lib.ListN.{length, take, drop}
 use lib.Seq.{take-add}
+use Rattle.wire.proofs.Decides.{both}
 use Rattle.rules.specs.Rules.{Config}
-use Rattle.rules.specs.Reader.{Reader, Answer, fresh, did, booked, push, status, took, bad, answer, joined}
-use Rattle.rules.specs.Demand.{answers, Demand}
+use Rattle.rules.specs.Reader.{Reader, Answer, fresh, did, booked, push, status, took, bad, answer}
+use Rattle.rules.specs.Demand.{answers}
 use Rattle.rules.proofs.Recut.{recut, parts}
 use Rattle.rules.proofs.Demand.{bad-push, cuts-dont-matter}
-use Rattle.reader.specs.View.{config, chop, front, view, Answered, Fed}
+use Rattle.reader.specs.View.{config, chop, front, view, Answered}
+use Rattle.reader.specs.Cuts.{Fed, CodeCutsDontMatter}
 use Rattle.reader.specs.Told.{freshCounts}
 use Rattle.reader.specs.declared.Counts.{Counts}
+use Rattle.reader.specs.declared.Told.{Told}
+use Rattle.reader.specs.declared.Pushed.{Pushed}
 use Rattle.reader.proofs.Parts.{length-chop, length-front}
 
 -- ---- one push
@@ -40,6 +44,10 @@ module _ (f : List ℕ) (c : Counts) (s : List ℕ) (st tk : ℕ) (c′ : Counts
       go true e = omega (arith, answered-refused e .1)
       go false e = omega (arith, answered-push e .2)
 
+-- a push's answer without the array
+abbrev pub told : Pushed → Told
+told p = record { said = p .said; counts = p .reader .counts }
+
 -- what is seen of a reader decides its numbers
 module _ (c₁ : Counts) (f₁ : List ℕ) (c₂ : Counts) (f₂ : List ℕ) (seen : view c₁ f₁ ≡ view c₂ f₂) where
   pub same-counts : c₁ ≡ c₂
@@ -58,6 +66,22 @@ module _ (c₁ : Counts) (f₁ : List ℕ) (c₂ : Counts) (f₂ : List ℕ) (se
         collected = k i;
         held = h i;
       }
+
+-- ---- the answer is one, but for places of the array that no one sees
+
+module _ {f : List ℕ} {c : Counts} {s : List ℕ} where
+  pub told-once : {x y : Told} {g h : List ℕ} → Answered f c s (x .said .status) (x .said .took) (x .counts) g
+      → Answered f c s (y .said .status) (y .said .took) (y .counts) h → both x (view (x .counts) g) ≡ both y (view (y .counts) h)
+  told-once {x = x} {y = y} {g = g} {h = h} a b =
+      let e = a .by-rule ∙ sym (b .by-rule) in
+      let seen : view (x .counts) g ≡ view (y .counts) h = ap (λ (z : Answer). z .reader) e in
+      let k : x .counts ≡ y .counts = same-counts (x .counts) g (y .counts) h seen in
+      λ i. both (record { said = record { status = e i .status; took = e i .took }; counts = k i }) (seen i)
+
+  pub pushed-once : {x y : Pushed} → Answered f c s (x .said .status) (x .said .took) (x .reader .counts) (x .reader .frames)
+      → Answered f c s (y .said .status) (y .said .took) (y .reader .counts) (y .reader .frames)
+      → both (told x) (view (x .reader .counts) (x .reader .frames)) ≡ both (told y) (view (y .reader .counts) (y .reader .frames))
+  pushed-once {x = x} {y = y} a b = told-once {x = told x} {y = told y} a b
 
 -- ---- two pushes are one
 
@@ -122,9 +146,8 @@ pub view-fresh : (command wanted : ℕ) (f : List ℕ) → view (freshCounts com
 unfolding view chop front
 view-fresh command wanted f = refl
 
--- DEMAND 3, of the code: chunks pushed one after the other into a new reader, by any function that answers as `Answered` says
-pub fed-demand : (command wanted : ℕ) (f : List ℕ) (st tk : ℕ) (c′ : Counts) (f′ : List ℕ) (s : List ℕ) (ss : List (List ℕ)) → wanted ≤ 85
-    → Fed s ss (freshCounts command wanted) f st tk c′ f′ → Demand (config command wanted) (joined (s ∷ ss)) record { reader = view c′ f′; status = st; took = tk }
-fed-demand command wanted f st tk c′ f′ s ss m fed =
+-- DEMAND 3, of the code
+pub code-cuts-dont-matter : CodeCutsDontMatter
+code-cuts-dont-matter command wanted m s ss f st tk c′ f′ fed =
     let q = fed-answers s ss (freshCounts command wanted) f st tk c′ f′ fed in
     rw (q, view-fresh command wanted f) (cuts-dont-matter (config command wanted) m s ss)

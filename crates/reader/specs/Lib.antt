@@ -1,4 +1,5 @@
--- The reader's struct as the rules see it, and what each function answers; `Steps` is what the private functions state.
+-- The reader's struct as the rules see it, what each function answers, and demand 3 of the code; `Steps` is what the private functions state.
 pub mod View
 pub mod Told
+pub mod Cuts
 pub mod Steps

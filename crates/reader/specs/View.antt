@@ -39,9 +39,3 @@ pub record Answered (f : List ℕ) (c : Counts) (s : List ℕ) (status took : �
   pub by-rule : record { reader = view c′ f′; status = status; took = took } ≡ answer (view c f) s
   -- "BadState returns the reader as given": unused places too
   pub as-given : bad (view c f) ≡ true → (c′ ≡ c) × (f′ ≡ f)
-
--- chunks pushed one after the other, the last answered by a status and the bytes taken
-abbrev pub Fed : List ℕ → List (List ℕ) → Counts → List ℕ → ℕ → ℕ → Counts → List ℕ → Type 0
-Fed s [] c f status took c′ f′ = Answered f c s status took c′ f′
-Fed s (t ∷ ts) c f status took c′ f′ =
-    (c₁ : Counts) × (f₁ : List ℕ) × (status₁ : ℕ) × (took₁ : ℕ) × Answered f c s status₁ took₁ c₁ f₁ × Fed t ts c₁ f₁ status took c′ f′

@@ -1,6 +1,5 @@
 // The reader of a reply's frames: the rules of the crate `rules`, on bytes that come in any chunks.
 ghost use mathlib.Core.Path.{_≡_};
-ghost use Prim.Native.Nat.{_≤_, _<_};
 ghost use lib.ListN.{length};
 ghost use Rattle.rules.specs.Reader.{copyCheck, joined};
 ghost use Rattle.list.specs.Listed.{Decodes};
@@ -113,45 +112,6 @@ pub fn push_into(frames: &mut [u8; 1105], counts: Counts, chunk: &[u8]) -> Told
             took: m.took,
         },
         counts: next,
-    }
-}
-
-// How long the next chunk is, of the bytes left: `size`, but at least one and at most all of them.
-fn chunk_size(size: usize, left: usize) -> usize
-    ensures { λ r. ⌜ (r ≤ left) × (0 < left → 0 < r) ⌝ }
-{
-    if left <= size {
-        return left;
-    }
-    if size == 0 {
-        return 1;
-    }
-    size
-}
-
-// A stream pushed in chunks of `size` bytes (0 counts as 1). Its answer is that of one push of the whole stream: `size` is not in the statement.
-pub fn push_in_chunks(frames: &mut [u8; 1105], counts: Counts, stream: &[u8], size: usize) -> Told
-    ensures { λ r. ⌜ Answered (now (frames .entry)) counts (now (stream .entry)) (r .said .status) (r .said .took) (r .counts) (now (frames .exit)) ⌝ }
-{
-    let mut at = chunk_size(size, stream.len());
-    let first = push_into(frames, counts, &stream[..at]);
-    let mut status = first.said.status;
-    let mut took = first.said.took;
-    let mut c = first.counts;
-    while at < stream.len() {
-        let n = chunk_size(size, stream.len() - at);
-        let t = push_into(frames, c, &stream[at..at + n]);
-        status = t.said.status;
-        took += t.said.took;
-        c = t.counts;
-        at += n;
-    }
-    Told {
-        said: Said {
-            status: status,
-            took: took,
-        },
-        counts: c,
     }
 }
 

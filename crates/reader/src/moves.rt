@@ -87,6 +87,21 @@ fn bridge(
     held + m
 }
 
+// The bytes of the bridge from `at` on, up to m, are held behind the collected frames: again 12 places are copied.
+fn hold_bridge(
+    w: &[u8; 24],
+    m: usize,
+    at: usize,
+    frames: &mut [u8; 1105],
+    collected: usize,
+) -> usize
+    requires { ⌜ (at ≤ 12) × (at ≤ m) × (m ≤ at + 12) × (m ≤ 24) × (collected < 85) ⌝ }
+    ensures { λ r. ⌜ (drop at (take m (now (w .entry))) ≡ front r (drop (13 * collected) (now (frames .exit)))) × (chop collected (now (frames .entry)) ≡ chop collected (now (frames .exit))) ⌝ }
+{
+    copy(frames, 13 * collected, w, at, 12);
+    m - at
+}
+
 // With bytes held: they and the first 12 of the chunk are judged apart, and what is left of the chunk where it lies.
 fn bridged(
     frames: &mut [u8; 1105],
@@ -106,7 +121,7 @@ fn bridged(
     let stop = p.at;
     let have = p.collected;
     if stop < held {
-        let k = hold(&w[..m], stop, frames, have);
+        let k = hold_bridge(&w, m, stop, frames, have);
         return Moved {
             took: chunk.len(),
             lost: p.lost,

@@ -21,6 +21,11 @@ pub(crate) fn copy(to: &mut [u8], start: usize, from: &[u8], at: usize, n: usize
     requires { ⌜ (start + n ≤ length (now to)) × (at + n ≤ length (now from)) ⌝ }
     ensures { λ r. ⌜ now (to .exit) ≡ paste (now (to .entry)) start (drop at (now (from .entry))) n ⌝ }
 {
+    // Bytes often come one by one, and a store is quicker than a loop of any length.
+    if n == 1 {
+        to[start] = from[at];
+        return;
+    }
     let mut i: usize = 0;
     while i < n {
         to[start + i] = from[at + i];

@@ -24,15 +24,8 @@ slice-aggregate-scan c =
 scan-requires : tie.Need-scan-requires
 scan-requires c κs = search needs
 
-array-share-prefix-w-2 : tie.Need-array-share-prefix-w-2
-array-share-prefix-w-2 c = search needs
-
-slice-aggregate-hold : tie.Need-slice-aggregate-hold
-slice-aggregate-hold c =
-    let b = c .before .before .before .before .before in omega (arith, length-take (b .bridge .result) (b .bridge .last .1 .1 .1 .1 .0), b .bridge .ensures .1, b .bridge .ensures .2)
-
-hold-requires : tie.Need-hold-requires
-hold-requires c κs =
+hold-bridge-requires : tie.Need-hold-bridge-requires
+hold-bridge-requires c κs =
     let s = c .before .before .before in
     let b = s .before .before .before in
     let a = b .before .before .before .before .args in
@@ -40,10 +33,13 @@ hold-requires c κs =
     let f : List ℕ = front (a .held) (drop (13 * a .collected) (a .frames .now)) in
     let lf : length f ≡ a .held = length-front (a .held) (drop (13 * a .collected) (a .frames .now)) in
     let e = b .bridge .ensures .0 in
+    let lm = length-take (b .bridge .result) (b .bridge .last .1 .1 .1 .1 .0) in
     let u = within-short _ _ f (a .chunk .now) _ _ _ _
     (is-open (config (a .command) (a .wanted)) (a .collected) (a .frames .now) (pre .1)) (omega (arith, pre .0)) (rw e at (s .scan .ensures)) (omega (arith, c .before .before .if1 .taken)) in (
-      s .scan .ensures .within,
-      ran-short _ _ _ _ _ _ _ _ (s .scan .ensures) (u .0),
+      omega (arith, pre .0, c .before .before .if1 .taken),
+      omega (arith, s .scan .ensures .within, lm),
+      omega (arith, ran-short _ _ _ _ _ _ _ _ (s .scan .ensures) (u .0), lm),
+      b .bridge .ensures .2,
       omega (arith, u .0, pre .2),
     )
 
@@ -58,7 +54,7 @@ returns c =
     let e = b .bridge .ensures .0 in
     moves-within _ _ f (a .chunk .now) _ _ _ _
     (is-open (config (a .command) (a .wanted)) (a .collected) (a .frames .now) (pre .1)) (omega (arith, pre .0)) (rw e at (s .scan .ensures))
-    (c .hold .last .1 .1 .0) (c .hold .result) (omega (arith, c .before .before .before .if1 .taken)) (rw e at (c .hold .ensures .0)) (c .hold .ensures .1)
+    (c .hold-bridge .last .1 .1 .1 .0) (c .hold-bridge .result) (omega (arith, c .before .before .before .if1 .taken)) (rw e at (c .hold-bridge .ensures .0)) (c .hold-bridge .ensures .1)
 
 direct-requires : tie.Need-direct-requires
 direct-requires c κs =
@@ -72,8 +68,8 @@ direct-requires c κs =
       pre .2,
     )
 
-add-t26 : tie.Need-add-t26
-add-t26 c =
+add-t25 : tie.Need-add-t25
+add-t25 c =
     let d = c .before .before in
     let s = d .before .before .before in
     let b = s .before .before .before in
@@ -102,10 +98,8 @@ bridged-spec =
     array-share-prefix-w
     slice-aggregate-scan
     scan-requires
-    array-share-prefix-w-2
-    slice-aggregate-hold
-    hold-requires
+    hold-bridge-requires
     returns
     direct-requires
-    add-t26
+    add-t25
     returns-2)

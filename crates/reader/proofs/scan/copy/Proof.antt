@@ -3,7 +3,7 @@ use native.Mathlib.Omega.{arith}
 use borrow.Author.Needs.{needs}
 use lib.ListN.{length, drop, length-set}
 use lib.Seq.{paste, paste-zero}
-use Rattle.reader.proofs.Parts.{copy-step}
+use Rattle.reader.proofs.Parts.{copy-one, copy-step}
 use mathlib.Core.Path.{_≡_, refl, _∙_}
 use Rattle.reader.proofs.scan.copy.Statement.{statement}
 use Rattle.reader.proofs.scan.copy.Tie as tie
@@ -14,20 +14,34 @@ Inv-loop to₀ start from at n i₀ to i = (i ≤ n) × (length to ≡ length to
 abbrev μ-loop : tie.MeasureT-loop
 μ-loop to₀ start from at n i₀ to i = n - i
 
+shared-slice-read-to : tie.Need-shared-slice-read-to Inv-loop μ-loop
+shared-slice-read-to c = search needs
+
+slice-write-to : tie.Need-slice-write-to Inv-loop μ-loop
+slice-write-to c = search needs
+
+same-length : tie.Need-same-length Inv-loop μ-loop
+same-length c = search needs
+
+returns : tie.Need-returns Inv-loop μ-loop
+returns c =
+    let s = c .before .before in
+    let a = s .args in rw (c .before .if1 .taken) (copy-one (a .to .now) (a .from .now) (a .start) (a .at) (omega (arith, s .pre .0)) (omega (arith, s .pre .1)))
+
 loop-holds : tie.Need-loop-holds Inv-loop μ-loop
-loop-holds c = (omega arith, refl, paste-zero (c .args .to .now) (c .args .start) (drop (c .args .at) (c .args .from .now)))
+loop-holds c = let a = c .before .args in (omega arith, refl, paste-zero (a .to .now) (a .start) (drop (a .at) (a .from .now)))
 
 add-to : tie.Need-add-to Inv-loop μ-loop
 add-to c = search needs
 
-shared-slice-read-to : tie.Need-shared-slice-read-to Inv-loop μ-loop
-shared-slice-read-to c = search needs
+shared-slice-read-to-2 : tie.Need-shared-slice-read-to-2 Inv-loop μ-loop
+shared-slice-read-to-2 c = search needs
 
 add-to-2 : tie.Need-add-to-2 Inv-loop μ-loop
 add-to-2 c = search needs
 
-slice-write-to : tie.Need-slice-write-to Inv-loop μ-loop
-slice-write-to c = search needs
+slice-write-to-2 : tie.Need-slice-write-to-2 Inv-loop μ-loop
+slice-write-to-2 c = search needs
 
 add-i : tie.Need-add-i Inv-loop μ-loop
 add-i c = search needs
@@ -37,18 +51,18 @@ loop-less c = search needs
 
 loop-again : tie.Need-loop-again Inv-loop μ-loop
 loop-again c =
-    let b = c .before .before .before in
+    let b = c .before .before .before .before in
     let l = c .before .before .loop in (
       omega arith,
       length-set (l .to) (b .args .start + l .i) _ ∙ l .inv .1,
       copy-step (b .args .to .now) (b .args .from .now) (b .args .start) (b .args .at) (l .i) (l .to) (omega arith) (omega arith) (l .inv .2),
     )
 
-same-length : tie.Need-same-length Inv-loop μ-loop
-same-length c = search needs
+same-length-2 : tie.Need-same-length-2 Inv-loop μ-loop
+same-length-2 c = search needs
 
-returns : tie.Need-returns Inv-loop μ-loop
-returns c = let e : c .before .loop .i ≡ c .before .before .args .n = omega arith in rw e at (c .before .loop .inv .2)
+returns-2 : tie.Need-returns-2 Inv-loop μ-loop
+returns-2 c = let e : c .before .loop .i ≡ c .before .before .before .args .n = omega arith in rw e at (c .before .loop .inv .2)
 
 pub copy-spec : {M : Type 1} → statement M
 copy-spec =
@@ -56,13 +70,17 @@ copy-spec =
     (tie.spec
     Inv-loop
     μ-loop
+    shared-slice-read-to
+    slice-write-to
+    same-length
+    returns
     loop-holds
     add-to
-    shared-slice-read-to
+    shared-slice-read-to-2
     add-to-2
-    slice-write-to
+    slice-write-to-2
     add-i
     loop-less
     loop-again
-    same-length
-    returns)
+    same-length-2
+    returns-2)

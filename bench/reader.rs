@@ -1,0 +1,228 @@
+//! The reader: a stream in chunks of one size, through the Rust's `push` and the port's.
+
+use crate::frames::reply;
+use dalybms_lib::protocol::{Address, CellVoltages, FrameReader, Soc};
+use std::hint::black_box;
+use std::time::Instant;
+
+const ROUNDS: usize = 15;
+const ROOM: usize = 1105;
+/// Bytes of a stream for chunks of up to 4 KiB.
+const STREAM: usize = 1 << 17;
+const KIB: usize = 1 << 10;
+const MIB: usize = 1 << 20;
+
+#[derive(Clone, Copy, Default)]
+#[repr(C)]
+pub struct Counts {
+    command: u8,
+    mark: bool,
+    taken: u32,
+    discarded: u32,
+    cleared: u32,
+    wanted: usize,
+    collected: usize,
+    held: usize,
+}
+
+#[derive(Clone, Copy)]
+#[repr(C)]
+pub struct Reader {
+    counts: Counts,
+    frames: [u8; ROOM],
+}
+
+#[repr(C)]
+pub struct Said {
+    status: u8,
+    took: usize,
+}
+
+#[repr(C)]
+pub struct Told {
+    said: Said,
+    counts: Counts,
+}
+
+#[repr(C)]
+pub struct Pushed {
+    said: Said,
+    reader: Reader,
+}
+
+extern "C" {
+    fn daly_reader_push(reader: Reader, p: *const u8, len: usize) -> Pushed;
+    fn daly_push_into(frames: *mut [u8; ROOM], counts: Counts, p: *const u8, len: usize) -> Told;
+    fn daly_push_in_chunks(
+        frames: *mut [u8; ROOM],
+        counts: Counts,
+        p: *const u8,
+        len: usize,
+        size: usize,
+    ) -> Told;
+}
+
+/// A stream and how it is read: a new reader begins with each `reply` bytes.
+struct Case {
+    name: &'static str,
+    command: u8,
+    wanted: usize,
+    reply: usize,
+    stream: Vec<u8>,
+}
+
+impl Case {
+    fn fresh(&self) -> Counts {
+        Counts {
+            command: self.command,
+            wanted: self.wanted,
+            ..Counts::default()
+        }
+    }
+
+    fn rust(&self, size: usize) {
+        let request = match self.command {
+            0x90 => Soc::request(Address::Host),
+            _ => CellVoltages::request(Address::Host),
+        };
+        for reply in self.stream.chunks(self.reply) {
+            let mut reader = FrameReader::new(&request, self.wanted * 13);
+            for chunk in reply.chunks(size) {
+                let _ = black_box(reader.push(black_box(chunk)));
+            }
+            black_box(&reader);
+        }
+    }
+
+    /// The core on the caller's memory, called through C for each chunk.
+    fn into(&self, size: usize) {
+        let mut frames = [0; ROOM];
+        for reply in self.stream.chunks(self.reply) {
+            let mut counts = self.fresh();
+            for chunk in reply.chunks(size) {
+                let (p, len) = (black_box(chunk.as_ptr()), chunk.len());
+                // SAFETY: `frames` has the room, and `chunk` is `len` bytes.
+                let told = unsafe { daly_push_into(&mut frames, counts, p, len) };
+                black_box(told.said.status | told.said.took as u8);
+                counts = told.counts;
+            }
+            black_box((&frames, counts.collected));
+        }
+    }
+
+    /// The core on the caller's memory, called by the port itself for each chunk.
+    fn in_chunks(&self, size: usize) {
+        let mut frames = [0; ROOM];
+        for reply in self.stream.chunks(self.reply) {
+            let (p, len) = (black_box(reply.as_ptr()), reply.len());
+            // SAFETY: as above.
+            let told = unsafe { daly_push_in_chunks(&mut frames, self.fresh(), p, len, size) };
+            black_box((&frames, told.counts.collected));
+        }
+    }
+
+    fn value(&self, size: usize) {
+        for reply in self.stream.chunks(self.reply) {
+            let mut reader = Reader {
+                counts: self.fresh(),
+                frames: [0; ROOM],
+            };
+            for chunk in reply.chunks(size) {
+                let (p, len) = (black_box(chunk.as_ptr()), chunk.len());
+                // SAFETY: `chunk` is `len` bytes.
+                reader = unsafe { daly_reader_push(reader, p, len) }.reader;
+            }
+            black_box(&reader);
+        }
+    }
+
+    /// The best of several rounds of each, taken in turns: nanoseconds a byte.
+    fn timed(&self, size: usize, forms: &[fn(&Self, usize)]) -> Vec<f64> {
+        let mut best = vec![f64::MAX; forms.len()];
+        for _ in 0..ROUNDS {
+            for (best, form) in best.iter_mut().zip(forms) {
+                let began = Instant::now();
+                form(self, size);
+                *best = best.min(began.elapsed().as_nanos() as f64);
+            }
+        }
+        best.iter().map(|ns| ns / self.stream.len() as f64).collect()
+    }
+}
+
+fn repeated(part: &[u8], len: usize) -> Vec<u8> {
+    part.iter().copied().cycle().take(len).collect()
+}
+
+/// Bytes that look drawn, the same in every run.
+fn drawn(len: usize) -> Vec<u8> {
+    let mut state = 20_261_018_u64;
+    let mut next = || {
+        state ^= state << 13;
+        state ^= state >> 7;
+        state ^= state << 17;
+        (state >> 32) as u8
+    };
+    (0..len).map(|_| next()).collect()
+}
+
+fn cases(len: usize) -> Vec<Case> {
+    let case = |name, command, wanted, reply, stream| Case {
+        name,
+        command,
+        wanted,
+        reply,
+        stream,
+    };
+    let cells = reply(0x95, 85, None);
+    let whole = |part: usize| len / part * part;
+    vec![
+        case("clean, 1 frame", 0x90, 1, 13, repeated(&reply(0x90, 1, None), whole(13))),
+        case("clean, 85 frames", 0x95, 85, ROOM, repeated(&cells, whole(ROOM))),
+        case("restarts, 84 of 85", 0x95, 85, len, repeated(&cells[..84 * 13], len)),
+        case("wrong command", 0x90, 1, len, repeated(&cells, len)),
+        case("drawn", 0x90, 1, len, drawn(len)),
+        case("all A5", 0x90, 1, len, vec![0xA5; len]),
+        case("zeros", 0x90, 1, len, vec![0; len]),
+    ]
+}
+
+/// Every chunk size, as far as the Rust gets through it in bearable time.
+pub fn table() {
+    println!(
+        "{:<22} {:>6} {:>9} {:>9} {:>9} {:>9}",
+        "reader: ratio to Rust", "chunk", "Rust ns/B", "in chunks", "into", "by value"
+    );
+    let forms = [Case::rust, Case::in_chunks, Case::into, Case::value];
+    for case in cases(STREAM) {
+        for size in [1, 13, 64, ROOM, 4 * KIB] {
+            let ns = case.timed(size, &forms);
+            let ratio = |k: usize| ns[k] / ns[0];
+            println!(
+                "{:<22} {size:>6} {:>9.2} {:>9.2} {:>9.2} {:>9.2}",
+                case.name,
+                ns[0],
+                ratio(1),
+                ratio(2),
+                ratio(3)
+            );
+        }
+    }
+}
+
+/// The port alone, over ever longer chunks: the cost of a byte must not grow.
+pub fn flat() {
+    let sizes = [KIB, 16 * KIB, 256 * KIB, MIB, 4 * MIB, 16 * MIB];
+    print!("{:<22}", "port: ns a byte");
+    for size in sizes {
+        print!(" {:>6} KiB", size / KIB);
+    }
+    println!();
+    for case in cases(16 * MIB) {
+        print!("{:<22}", case.name);
+        for size in sizes {
+            print!(" {:>10.3}", case.timed(size, &[Case::into])[0]);
+        }
+        println!();
+    }
+}

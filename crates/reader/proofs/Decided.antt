@@ -1,0 +1,31 @@
+-- Each contract of the crate allows one answer, and one exit of the lent places; of a push, all but the places of the array
+-- behind the bytes held, which no one sees (`view`). Assumes nothing.
+use denote.Ref.{now}
+use Rattle.wire.proofs.Decides.{Decides, same, both}
+use Rattle.list.proofs.Decoding.{pinned}
+use Rattle.reader.specs.View.{view}
+use Rattle.reader.proofs.Promise.{told, told-once, pushed-once}
+use Rattle.reader.proofs.push_into.Reads as push-into
+use Rattle.reader.proofs.FrameReader.new.Reads as FrameReader-new
+use Rattle.reader.proofs.FrameReader.push.Reads as FrameReader-push
+use Rattle.reader.proofs.FrameReader.missing.Reads as FrameReader-missing
+use Rattle.reader.proofs.FrameReader.is_complete.Reads as FrameReader-is-complete
+use Rattle.reader.proofs.FrameReader.copy_out.Reads as FrameReader-copy-out
+
+push-into-decides : Decides push-into.Post (λ κs r s. both r (view (r .counts) (now (s .0))))
+push-into-decides κs a x y s t = told-once
+
+FrameReader-new-decides : Decides FrameReader-new.Post (λ κs r s. r)
+FrameReader-new-decides κs a x y s t = same
+
+FrameReader-push-decides : Decides FrameReader-push.Post (λ κs r s. both (told r) (view (r .reader .counts) (r .reader .frames)))
+FrameReader-push-decides κs a x y s t = pushed-once
+
+FrameReader-missing-decides : Decides FrameReader-missing.Post (λ κs r s. r)
+FrameReader-missing-decides κs a x y s t = same
+
+FrameReader-is-complete-decides : Decides FrameReader-is-complete.Post (λ κs r s. r)
+FrameReader-is-complete-decides κs a x y s t = same
+
+FrameReader-copy-out-decides : Decides FrameReader-copy-out.Post (λ κs r s. both r (now (s .1 .0)))
+FrameReader-copy-out-decides κs a x y s t = pinned

@@ -7,6 +7,7 @@ mod reader;
 use dalybms_lib::protocol::*;
 use frames::reply;
 use std::hint::black_box;
+use std::process::ExitCode;
 use std::time::Instant;
 
 const ROUNDS: usize = 41;
@@ -191,10 +192,7 @@ fn bits() {
     );
 }
 
-fn main() {
-    if std::env::args().nth(1).as_deref() == Some("reader") {
-        return reader::table();
-    }
+fn calls() {
     println!(
         "{:<28} {:>9} {:>9} {:>7}",
         "nanoseconds a call", "Rust", "port", "ratio"
@@ -203,8 +201,27 @@ fn main() {
     one_frame();
     numbered();
     bits();
-    println!();
-    reader::table();
-    println!();
-    reader::flat();
+}
+
+fn main() -> ExitCode {
+    let words: Vec<String> = std::env::args().skip(1).collect();
+    match words.first().map(String::as_str) {
+        None => {
+            calls();
+            println!();
+            reader::table();
+            println!();
+            reader::flat();
+        }
+        Some("calls") => calls(),
+        Some("reader") => reader::table(),
+        Some("flat") => reader::flat(),
+        Some("names") => reader::names(),
+        Some("one") if reader::one(&words[1..]).is_some() => {}
+        _ => {
+            eprintln!("bench: calls, reader, flat, names, or one NAME FORM SIZE");
+            return ExitCode::FAILURE;
+        }
+    }
+    ExitCode::SUCCESS
 }

@@ -146,7 +146,9 @@ impl Case {
                 *best = best.min(began.elapsed().as_nanos() as f64);
             }
         }
-        best.iter().map(|ns| ns / self.stream.len() as f64).collect()
+        best.iter()
+            .map(|ns| ns / self.stream.len() as f64)
+            .collect()
     }
 }
 
@@ -177,9 +179,27 @@ fn cases(len: usize) -> Vec<Case> {
     let cells = reply(0x95, 85, None);
     let whole = |part: usize| len / part * part;
     vec![
-        case("clean, 1 frame", 0x90, 1, 13, repeated(&reply(0x90, 1, None), whole(13))),
-        case("clean, 85 frames", 0x95, 85, ROOM, repeated(&cells, whole(ROOM))),
-        case("restarts, 84 of 85", 0x95, 85, len, repeated(&cells[..84 * 13], len)),
+        case(
+            "clean, 1 frame",
+            0x90,
+            1,
+            13,
+            repeated(&reply(0x90, 1, None), whole(13)),
+        ),
+        case(
+            "clean, 85 frames",
+            0x95,
+            85,
+            ROOM,
+            repeated(&cells, whole(ROOM)),
+        ),
+        case(
+            "restarts, 84 of 85",
+            0x95,
+            85,
+            len,
+            repeated(&cells[..84 * 13], len),
+        ),
         case("wrong command", 0x90, 1, len, repeated(&cells, len)),
         case("drawn", 0x90, 1, len, drawn(len)),
         case("all A5", 0x90, 1, len, vec![0xA5; len]),
@@ -187,7 +207,36 @@ fn cases(len: usize) -> Vec<Case> {
     ]
 }
 
-/// Every chunk size, as far as the Rust gets through it in bearable time.
+/// One stream through one form, for a tool that counts instructions between entry and exit.
+#[inline(never)]
+fn counted(case: &Case, form: fn(&Case, usize), size: usize) {
+    form(case, size);
+}
+
+/// `NAME FORM SIZE`: what `bench/instructions` asks for.
+pub fn one(words: &[String]) -> Option<()> {
+    let [name, form, size] = words else {
+        return None;
+    };
+    let case = cases(STREAM).into_iter().find(|case| case.name == name)?;
+    let form = match form.as_str() {
+        "rust" => Case::rust,
+        "in chunks" => Case::in_chunks,
+        "into" => Case::into,
+        _ => return None,
+    };
+    counted(&case, form, size.parse().ok()?);
+    Some(())
+}
+
+/// The streams' names and length.
+pub fn names() {
+    println!("{STREAM}");
+    for case in cases(1) {
+        println!("{}", case.name);
+    }
+}
+
 pub fn table() {
     println!(
         "{:<22} {:>6} {:>9} {:>9} {:>9} {:>9}",

@@ -67,8 +67,8 @@ module _ (f : List ℕ) (c : Counts) (s f′ : List ℕ) (m : Moved) (mark : Boo
 
   pub answered : bad (view c f) ≡ false
       → Moves (config (c .command) (c .wanted)) (run (config (c .command) (c .wanted)) (chop (c .collected) f) (front (c .held) (drop (13 * c .collected) f) ++ s)) (c .cleared) s f′ m
-      → mark ≡ (c .mark || ltb 512 (c .discarded + m .lost)) → taken ≡ (c .taken + m .took % 4294967296) % 4294967296
-      → discarded ≡ (c .discarded + m .lost % 4294967296) % 4294967296 → st ≡ (if mark then 2 else 0)
+      → mark ≡ (c .mark || ltb 512 (c .discarded + m .lost)) → taken ≡ (c .taken + m .took) % 4294967296
+      → discarded ≡ (c .discarded + m .lost) % 4294967296 → st ≡ (if mark then 2 else 0)
       → Answered f c s st (m .took) After f′
   unfolding answer push did booked view status
   answered e v o t d k =

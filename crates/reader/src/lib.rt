@@ -94,8 +94,8 @@ pub fn push_into(frames: &mut [u8; 1105], counts: Counts, chunk: &[u8]) -> Told
         counts.cleared,
     );
     let mark = state::passed(counts.mark, counts.discarded, m.lost);
-    let taken = std::num::wrapping_add_u32(counts.taken, state::low32(m.took));
-    let discarded = std::num::wrapping_add_u32(counts.discarded, state::low32(m.lost));
+    let taken = scan::add_count(counts.taken, m.took);
+    let discarded = scan::add_count(counts.discarded, m.lost);
     let next = Counts {
         command: counts.command,
         mark: mark,

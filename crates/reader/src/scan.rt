@@ -1,6 +1,6 @@
 // The rules on the bytes of a slice, one turn after the other.
 ghost use mathlib.Core.Path.{_≡_};
-ghost use Prim.Native.Nat.{ℕ, _+_, _<_, _≤_};
+ghost use Prim.Native.Nat.{ℕ, _+_, _%_, _<_, _≤_};
 ghost use lib.ListN.{length, drop, getD};
 ghost use lib.Seq.{paste};
 ghost use Rattle.rules.specs.Rules.{judge, lost as lostOf, restarts, if_then_else_};
@@ -14,6 +14,13 @@ pub struct Progress {
     pub lost: usize,
     pub collected: usize,
     pub cleared: u32,
+}
+
+// A count goes on, modulo 2^32.
+pub(crate) fn add_count(count: u32, more: usize) -> u32
+    ensures { λ r. ⌜ r ≡ (count + more) % 4294967296 ⌝ }
+{
+    std::num::wrapping_add_u32(count, (more % 0x1_0000_0000) as u32)
 }
 
 // n bytes of `from`, from `at` on, go to `to` from `start` on.
@@ -54,19 +61,24 @@ fn discards(w: &[u8], command: u8, wanted: usize, have: usize) -> usize
     ensures { λ r. ⌜ (r ≡ lostOf (judge (config command wanted) have (now (w .entry)))) × (r ≤ 13) ⌝ }
 {
     let sum = frame::calc_crc(w);
+    // "wrong sum: one byte is discarded"
     if w[12] != sum {
         return 1;
     }
+    // "wrong command: 13 are discarded"
     if w[2] != command {
-        return 13;
+        return frame::FRAME_LENGTH;
     }
+    // "With n = 1 the number is not read"
     if wanted <= 1 {
         return 0;
     }
     let number = w[4];
+    // a restart is in its place
     if number == 1 {
         return 0;
     }
+    // "a number other than collected + 1 discards 13"
     if number != (have + 1) as u8 {
         return 13;
     }
@@ -78,13 +90,14 @@ fn staying(w: &[u8], wanted: usize, have: usize) -> usize
     requires { ⌜ length (now w) ≡ 13 ⌝ }
     ensures { λ r. ⌜ (r ≡ (if restarts (config 0 wanted) (now (w .entry)) then 0 else have)) × (r ≤ have) ⌝ }
 {
-    if wanted <= 1 {
+    if wanted < 2 {
         return have;
     }
-    if w[4] == 1 {
-        return 0;
+    // "number 1 in byte 4 drops all collected frames"
+    if w[4] != 1 {
+        return have;
     }
-    have
+    0
 }
 
 // All turns on s from `from` on.
@@ -121,7 +134,7 @@ pub(crate) fn scan(
             if d == 0 {
                 let k = staying(&s[at..at + 13], wanted, have);
                 copy(frames, 13 * k, s, at, 13);
-                cleared = std::num::wrapping_add_u32(cleared, (have - k) as u32);
+                cleared = add_count(cleared, have - k);
                 have = k + 1;
                 at += 13;
             } else {

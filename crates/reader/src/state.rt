@@ -1,7 +1,7 @@
 // Refusal 8, the mark and the status: what a push tests before it moves and books afterwards.
 ghost use mathlib.Core.Path.{_≡_};
 ghost use mathlib.Core.Bool.{not, _&&_, _||_};
-ghost use Prim.Native.Nat.{_+_, _%_};
+ghost use Prim.Native.Nat.{_+_};
 ghost use lib.Dec.{ltb};
 ghost use Rattle.frame.specs.declared.Refusal.the-variants.{BadState};
 ghost use Rattle.frame.specs.declared.Check.the-variants.{Sound};
@@ -48,12 +48,6 @@ pub(crate) fn state_number(frames: &[u8; 1105], c: Counts) -> u8
         return 8;
     }
     unmarked(c.discarded, c.mark)
-}
-
-pub(crate) fn low32(x: usize) -> u32
-    ensures { λ r. ⌜ r ≡ x % 4294967296 ⌝ }
-{
-    (x % 0x1_0000_0000) as u32
 }
 
 // The mark after a push that discarded `lost` bytes; no sum here can wrap.

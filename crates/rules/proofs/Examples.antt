@@ -35,11 +35,8 @@ pub line90-more : answer (fresh c90) (frame90 ++ frame90) ≡ answered c90 0 13 
 unfolding answer bad status push did run turns look judge restarts sumRight sum total after drops stay booked counted complete heldOf untaken
 line90-more = refl
 
--- a wrong command: 13 bytes are discarded, an A5 among them too, and the frame behind them is collected
-abbrev pub other : List ℕ
-other = 0xA5 ∷ 0x01 ∷ 0x91 ∷ 0x08 ∷ 0xA5 ∷ 0 ∷ 0 ∷ 0 ∷ 0 ∷ 0 ∷ 0 ∷ 0 ∷ 0xE4 ∷ []
-
-pub wrong-command : answer (fresh c90) (other ++ frame90) ≡ answered c90 0 26 (frame90 ∷ []) [] 26 13 0 false
+-- a wrong command: 13 bytes are discarded, though the wanted frame begins among them; what follows is then noise
+pub wrong-command : answer (fresh c90) (0xA5 ∷ 0x01 ∷ 0x91 ∷ 0x08 ∷ 0x76 ∷ frame90) ≡ answered c90 0 18 [] [] 18 18 0 false
 unfolding answer bad status push did run turns look judge restarts sumRight sum total after drops stay booked counted complete heldOf untaken
 wrong-command = refl
 

@@ -1,8 +1,6 @@
-use Prim.Native.Nat.{ℕ, _+_, _%_}
 use borrow.Author.Needs.{needs}
 use Rattle.reader.proofs.Refusing.{sane, is-refused, not-refused}
 use Rattle.reader.proofs.Answer.{answered-bad, answered}
-use mathlib.Core.Path.{ap, _∙_}
 use Rattle.reader.proofs.push_into.Statement.{statement}
 use Rattle.reader.proofs.push_into.Tie as tie
 
@@ -23,32 +21,25 @@ advance-requires c κs =
 passed-requires : tie.Need-passed-requires
 passed-requires c κs = search needs
 
-low32-requires : tie.Need-low32-requires
-low32-requires c κs = search needs
+add-count-requires : tie.Need-add-count-requires
+add-count-requires c κs = search needs
 
-wrapping-add-u32-requires : tie.Need-wrapping-add-u32-requires
-wrapping-add-u32-requires c κs = search needs
-
-low32-requires-2 : tie.Need-low32-requires-2
-low32-requires-2 c κs = search needs
-
-wrapping-add-u32-requires-2 : tie.Need-wrapping-add-u32-requires-2
-wrapping-add-u32-requires-2 c κs = search needs
+add-count-requires-2 : tie.Need-add-count-requires-2
+add-count-requires-2 c κs = search needs
 
 status-of-requires : tie.Need-status-of-requires
 status-of-requires c κs = search needs
 
 returns-2 : tie.Need-returns-2
 returns-2 c =
-    let v = c .before .before .before .before .before .before in
+    let p = c .before .before .before in
+    let v = p .before in
     let e = v .before .before in
     let a = e .before .before .before .before .args in
-    answered (a .frames .now) (a .counts) (a .chunk .now) (v .advance .last .0) (v .advance .result) (c .before .before .before .before .before .passed .result)
-    (c .before .before .before .wrapping-add-u32 .result) (c .before .wrapping-add-u322 .result) (c .status-of .result)
-    (not-refused (a .counts) (a .frames .now) (e .before .state-number .result) (e .before .state-number .ensures) (e .if1 .left)) (v .advance .ensures) (c .before .before .before .before .before .passed .ensures)
-    (c .before .before .before .wrapping-add-u32 .ensures ∙ ap (λ (y : ℕ). (a .counts .taken + y) % 4294967296) (c .before .before .before .before .low32 .ensures))
-    (c .before .wrapping-add-u322 .ensures ∙ ap (λ (y : ℕ). (a .counts .discarded + y) % 4294967296) (c .before .before .low322 .ensures))
-    (c .status-of .ensures)
+    answered (a .frames .now) (a .counts) (a .chunk .now) (v .advance .last .0) (v .advance .result) (p .passed .result)
+    (c .before .before .add-count .result) (c .before .add-count2 .result) (c .status-of .result)
+    (not-refused (a .counts) (a .frames .now) (e .before .state-number .result) (e .before .state-number .ensures) (e .if1 .left)) (v .advance .ensures) (p .passed .ensures)
+    (c .before .before .add-count .ensures) (c .before .add-count2 .ensures) (c .status-of .ensures)
 
 pub push-into-spec : {M : Type 1} → statement M
 push-into-spec =
@@ -58,9 +49,7 @@ push-into-spec =
     returns
     advance-requires
     passed-requires
-    low32-requires
-    wrapping-add-u32-requires
-    low32-requires-2
-    wrapping-add-u32-requires-2
+    add-count-requires
+    add-count-requires-2
     status-of-requires
     returns-2)

@@ -95,14 +95,11 @@ mul-copy c = search needs
 copy-requires : tie.Need-copy-requires Inv-loop μ-loop
 copy-requires c κs = search needs
 
-sub-wrapping-add-u32 : tie.Need-sub-wrapping-add-u32 Inv-loop μ-loop
-sub-wrapping-add-u32 c = search needs
+sub-add-count : tie.Need-sub-add-count Inv-loop μ-loop
+sub-add-count c = search needs
 
-cast-wrapping-add-u32 : tie.Need-cast-wrapping-add-u32 Inv-loop μ-loop
-cast-wrapping-add-u32 c = search needs
-
-wrapping-add-u32-requires : tie.Need-wrapping-add-u32-requires Inv-loop μ-loop
-wrapping-add-u32-requires c κs = search needs
+add-count-requires : tie.Need-add-count-requires Inv-loop μ-loop
+add-count-requires c κs = search needs
 
 add-have : tie.Need-add-have Inv-loop μ-loop
 add-have c = search needs
@@ -128,12 +125,12 @@ loop-again-2 c =
     let room : 13 * c .before .before .before .staying .result + 13 ≤ length (l .frames) = omega (arith, full, e .if1 .left, st .1) in (
       here-collected _ _ _ (a .s .now) _ _ (l .at) _ _ (l .inv .0)
           (e .if1 .left) b (i .if2 .left)
-          (c .before .before .before .staying .result) (c .wrapping-add-u32 .result) (c .before .copy .last .0)
-          (sym (k .if4 .taken) ∙ d .0) (st .0) (c .before .copy .ensures) room (c .wrapping-add-u32 .ensures),
+          (c .before .before .before .staying .result) (c .add-count .result) (c .before .copy .last .0)
+          (sym (k .if4 .taken) ∙ d .0) (st .0) (c .before .copy .ensures) room (c .add-count .ensures),
       b,
       omega (arith, l .inv .2),
       omega (arith, e .if1 .left, st .1),
-      omega (arith, c .wrapping-add-u32 .ensures),
+      omega (arith, c .add-count .ensures),
     )
 
 add-lost-2 : tie.Need-add-lost-2 Inv-loop μ-loop
@@ -215,9 +212,8 @@ scan-spec =
     staying-requires
     mul-copy
     copy-requires
-    sub-wrapping-add-u32
-    cast-wrapping-add-u32
-    wrapping-add-u32-requires
+    sub-add-count
+    add-count-requires
     add-have
     add-at
     loop-less-2

@@ -6,7 +6,7 @@ use Rattle.reader.proofs.scan.staying.Tie as tie
 
 -- src/scan.rt:77:9
 returns : tie.Need-returns
-returns c = let a = c .before .args in (stay-one (a .wanted) (a .w .now) (a .have) (c .if1 .taken), omega arith)
+returns c = let a = c .before .args in (stay-one (a .wanted) (a .w .now) (a .have) (omega (arith, c .if1 .taken)), omega arith)
 
 -- src/scan.rt:79:8
 shared-slice-read-if2 : tie.Need-shared-slice-read-if2
@@ -16,13 +16,13 @@ shared-slice-read-if2 c = search needs
 returns-2 : tie.Need-returns-2
 returns-2 c =
     let e = c .before .before in
-    let a = e .before .args in (stay-none (a .wanted) (a .w .now) (a .have) (e .if1 .left) (c .if2 .taken), omega arith)
+    let a = e .before .args in (stay-all (a .wanted) (a .w .now) (a .have) (e .if1 .left) (c .if2 .taken), omega arith)
 
 -- src/scan.rt:72:1
 returns-3 : tie.Need-returns-3
 returns-3 c =
     let e = c .before .before in
-    let a = e .before .args in (stay-all (a .wanted) (a .w .now) (a .have) (e .if1 .left) (c .if2 .left), omega arith)
+    let a = e .before .args in (stay-none (a .wanted) (a .w .now) (a .have) (e .if1 .left) (c .if2 .left), omega arith)
 
 pub staying-spec : {M : Type 1} → statement M
 staying-spec = tie.close (tie.spec returns shared-slice-read-if2 returns-2 returns-3)

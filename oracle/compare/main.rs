@@ -12,6 +12,7 @@ mod one_frame;
 mod original;
 mod port;
 mod random;
+mod reader;
 mod readings;
 mod requests;
 mod set_soc;
@@ -20,26 +21,29 @@ mod told;
 mod trial;
 
 use std::process::ExitCode;
-use trial::Part;
+use trial::{Outcome, Part};
 
 const DEFAULT_SEED: u64 = 20_261_018;
 
 struct Options {
     seed: u64,
     all_patterns: bool,
+    long: bool,
 }
 
 fn options() -> Result<Options, String> {
     let mut seed = std::env::var("SEED").ok();
     let mut all_patterns = false;
+    let mut long = false;
     let mut words = std::env::args().skip(1);
     while let Some(word) = words.next() {
         match word.as_str() {
             "--all-patterns" => all_patterns = true,
+            "--long" => long = true,
             "--seed" => seed = Some(words.next().ok_or("--seed needs a number")?),
             _ => {
                 return Err(format!(
-                    "unknown argument {word}: --seed N or --all-patterns"
+                    "unknown argument {word}: --seed N, --all-patterns or --long"
                 ))
             }
         }
@@ -50,13 +54,17 @@ fn options() -> Result<Options, String> {
             .parse()
             .map_err(|_| format!("the seed {text} is no number"))?,
     };
-    Ok(Options { seed, all_patterns })
+    Ok(Options {
+        seed,
+        all_patterns,
+        long,
+    })
 }
 
 /// Both halves at once, on a thread each.
 fn all_patterns(seed: u64) -> Vec<bool> {
     std::thread::scope(|scope| {
-        let halves = set_soc::ALL_PATTERNS.map(|half| scope.spawn(move || half.passes(seed)));
+        let halves = set_soc::ALL_PATTERNS.map(|half| scope.spawn(move || half.full(seed).passed));
         halves.map(|half| half.join().unwrap_or(false)).to_vec()
     })
 }
@@ -72,6 +80,7 @@ fn run(options: &Options) -> Vec<bool> {
         &numbered::parts(),
         &balance::parts(),
         &faults::parts(),
+        &reader::parts(),
     ]
     .concat();
     // A seed for each part, so that no part's cases depend on those before it.
@@ -80,10 +89,15 @@ fn run(options: &Options) -> Vec<bool> {
             .map(|index| options.seed.wrapping_add(index))
             .zip(&parts)
     };
-    let mut passed: Vec<bool> = seeded().map(|(seed, part)| part.passes(seed)).collect();
+    let outcomes: Vec<Outcome> = seeded().map(|(seed, part)| part.full(seed)).collect();
+    let mut passed: Vec<bool> = outcomes.iter().map(|outcome| outcome.passed).collect();
+    passed.push(reader::enough(&outcomes));
     passed.extend(seeded().map(|(seed, part)| part.notices(seed)));
     if options.all_patterns {
         passed.extend(all_patterns(options.seed));
+    }
+    if options.long {
+        passed.extend(reader::LONG.map(|part| part.full(options.seed).passed));
     }
     passed
 }

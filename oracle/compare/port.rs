@@ -87,12 +87,18 @@ pub struct Spoil {
 /// Every answer of the port comes through here, so that any can be spoiled.
 pub struct Port {
     pub calls: u64,
+    /// Of the calls, those that pushed into a reader.
+    pub pushes: u64,
     spoil: Option<Spoil>,
 }
 
 impl Port {
     pub fn new(spoil: Option<Spoil>) -> Self {
-        Self { calls: 0, spoil }
+        Self {
+            calls: 0,
+            pushes: 0,
+            spoil,
+        }
     }
 
     pub fn calc_crc(&mut self, buffer: &[u8]) -> u8 {
@@ -145,7 +151,7 @@ impl Port {
         self.answered(unsafe { ask(n) })
     }
 
-    fn answered<A: Answer>(&mut self, mut answer: A) -> A {
+    pub fn answered<A: Answer>(&mut self, mut answer: A) -> A {
         if let Some(spoil) = self.spoil.filter(|spoil| spoil.call == self.calls) {
             answer.flip(spoil.bit);
         }

@@ -212,6 +212,12 @@ told! {
     ListTold {
         count: usize,
     }
+    MissingTold {
+        missing: usize,
+    }
+    CompletedTold {
+        complete: Flag,
+    }
 }
 
 /// A list's answer, and the whole buffer after the call: the places lent, and those behind them.

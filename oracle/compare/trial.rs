@@ -15,13 +15,24 @@ pub struct Part {
     what: &'static str,
     /// A full run of fewer cases fails.
     minimum: u64,
+    /// Of fewer streams, too.
+    minimum_streams: u64,
     run: fn(&mut Trial),
+}
+
+/// What a full run of one part came to.
+pub struct Outcome {
+    pub passed: bool,
+    pub streams: u64,
+    pub pushes: u64,
 }
 
 /// One run of one part.
 pub struct Trial {
     pub port: Port,
     pub random: Random,
+    /// Streams made so far, each counted once however often it is cut.
+    pub streams: u64,
     name: String,
     /// A small run tests the part itself: it draws fewer cases and prints nothing.
     small: bool,
@@ -55,9 +66,19 @@ impl Trial {
         found: T,
         case: impl FnOnce() -> String,
     ) {
+        self.agrees(wanted, found, case);
+    }
+
+    /// The same, and says whether it was: a reader that went wrong is pushed no further.
+    pub fn agrees<T: PartialEq + Debug>(
+        &mut self,
+        wanted: T,
+        found: T,
+        case: impl FnOnce() -> String,
+    ) -> bool {
         self.judge(wanted == found, || {
             format!("wanted {wanted:02X?} found {found:02X?} at {}", case())
-        });
+        })
     }
 
     /// Counts one case whose answer is known beforehand: both must give it.
@@ -76,15 +97,16 @@ impl Trial {
         });
     }
 
-    fn judge(&mut self, right: bool, text: impl FnOnce() -> String) {
+    fn judge(&mut self, right: bool, text: impl FnOnce() -> String) -> bool {
         self.cases += 1;
         if right {
-            return;
+            return true;
         }
         self.mismatches += 1;
         if !self.small && self.mismatches <= SHOWN {
             println!("MISMATCH {}: {}", self.name, text());
         }
+        false
     }
 }
 
@@ -99,7 +121,16 @@ impl Part {
             of,
             what,
             minimum,
+            minimum_streams: 0,
             run,
+        }
+    }
+
+    /// The same, of at least so many streams.
+    pub const fn of_streams(self, minimum_streams: u64) -> Self {
+        Self {
+            minimum_streams,
+            ..self
         }
     }
 
@@ -111,6 +142,7 @@ impl Part {
         let mut trial = Trial {
             port: Port::new(spoil),
             random: Random::new(seed),
+            streams: 0,
             name: self.name(),
             small,
             cases: 0,
@@ -121,18 +153,32 @@ impl Part {
     }
 
     /// Runs the part in full.
-    pub fn passes(&self, seed: u64) -> bool {
+    pub fn full(&self, seed: u64) -> Outcome {
         let trial = self.tried(seed, false, None);
-        let passed = trial.mismatches == 0 && trial.cases >= self.minimum;
+        let enough = trial.cases >= self.minimum && trial.streams >= self.minimum_streams;
+        let passed = trial.mismatches == 0 && enough;
         println!(
-            "{} {}: {} cases (at least {}), {} mismatches",
+            "{} {}: {} cases (at least {}), {}{} mismatches",
             verdict(passed),
             trial.name,
             trial.cases,
             self.minimum,
+            self.streams(&trial),
             trial.mismatches
         );
-        passed
+        Outcome {
+            passed,
+            streams: trial.streams,
+            pushes: trial.port.pushes,
+        }
+    }
+
+    /// The count of streams, where there are to be some.
+    fn streams(&self, trial: &Trial) -> String {
+        match self.minimum_streams {
+            0 => String::new(),
+            minimum => format!("{} streams (at least {minimum}), ", trial.streams),
+        }
     }
 
     /// Whether small runs notice one flipped bit in one answer of the port, wherever it is.
@@ -156,7 +202,7 @@ impl Part {
     }
 }
 
-fn verdict(passed: bool) -> &'static str {
+pub fn verdict(passed: bool) -> &'static str {
     if passed {
         "ok    "
     } else {

@@ -1,0 +1,54 @@
+//! The frame reader: the port's beside the Rust's, and both beside a model of document 01's rules.
+
+mod bad;
+mod copies;
+mod cuts;
+mod kinds;
+mod long;
+mod model;
+mod numbers;
+mod opened;
+mod over;
+mod port;
+mod sides;
+mod states;
+mod streams;
+mod told;
+mod wraps;
+
+use crate::trial::{verdict, Outcome, Part};
+
+const OF: &str = "FrameReader";
+
+/// Demanded of all parts together.
+const STREAMS: u64 = 200_000;
+const PUSHES: u64 = 10_000_000;
+
+pub fn parts() -> Vec<Part> {
+    [
+        numbers::PARTS,
+        opened::PARTS,
+        &kinds::PARTS,
+        &cuts::PARTS,
+        &over::PARTS,
+        &wraps::PARTS,
+        &bad::PARTS,
+        &copies::PARTS,
+    ]
+    .concat()
+}
+
+/// Streams of more than 2^32 bytes.
+pub const LONG: [Part; 3] = long::PARTS;
+
+/// Whether the parts together had streams and pushes enough.
+pub fn enough(outcomes: &[Outcome]) -> bool {
+    let streams: u64 = outcomes.iter().map(|outcome| outcome.streams).sum();
+    let pushes: u64 = outcomes.iter().map(|outcome| outcome.pushes).sum();
+    let enough = streams >= STREAMS && pushes >= PUSHES;
+    println!(
+        "{} {OF}, all parts together: {streams} streams (at least {STREAMS}), {pushes} pushes (at least {PUSHES})",
+        verdict(enough)
+    );
+    enough
+}

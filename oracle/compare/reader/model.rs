@@ -1,0 +1,185 @@
+//! Document 01's reader, rule by rule. The Rust says nothing of bytes taken, frames cleared, the mark
+//! and refusal 8, and keeps what comes after completion: there this model decides.
+
+use super::told::{Counts, Reader, Said};
+use crate::frames::{self, DATA, FRAME, START};
+
+/// Bytes that may be discarded before the status is 2.
+pub const MOST_DISCARDED: u64 = 512;
+/// Frames that a reader has room for.
+pub const MOST_WANTED: usize = 85;
+
+/// A reader in a good state.
+#[derive(Clone)]
+pub struct Model {
+    pub command: u8,
+    pub wanted: usize,
+    pub mark: bool,
+    pub taken: u32,
+    pub discarded: u32,
+    pub cleared: u32,
+    /// Whole frames, 13 bytes each.
+    pub collected: Vec<u8>,
+    pub held: Vec<u8>,
+}
+
+/// What becomes of the next bytes.
+enum Judged {
+    Discarded(usize),
+    Held,
+    Collected,
+}
+
+impl Model {
+    pub fn new(command: u8, size: usize) -> Self {
+        Self {
+            command,
+            wanted: size.div_ceil(FRAME),
+            mark: false,
+            taken: 0,
+            discarded: 0,
+            cleared: 0,
+            collected: Vec::new(),
+            held: Vec::new(),
+        }
+    }
+
+    /// The reader in this state; none where it is a bad one.
+    pub fn of(reader: &Reader) -> Option<Self> {
+        let counts = &reader.counts;
+        let good = bad_state(reader) == [false; 6];
+        good.then(|| Self {
+            command: counts.command,
+            wanted: counts.wanted,
+            mark: counts.mark.0 == 1,
+            taken: counts.taken,
+            discarded: counts.discarded,
+            cleared: counts.cleared,
+            collected: reader.collected().to_vec(),
+            held: reader.held().to_vec(),
+        })
+    }
+
+    pub fn counts(&self) -> Counts {
+        Counts {
+            command: self.command,
+            mark: self.mark.into(),
+            taken: self.taken,
+            discarded: self.discarded,
+            cleared: self.cleared,
+            wanted: self.wanted,
+            collected: self.frames(),
+            held: self.held.len(),
+        }
+    }
+
+    fn frames(&self) -> usize {
+        self.collected.len() / FRAME
+    }
+
+    pub fn is_complete(&self) -> bool {
+        self.frames() >= self.wanted
+    }
+
+    pub fn missing(&self) -> usize {
+        if self.is_complete() {
+            0
+        } else {
+            FRAME - self.held.len()
+        }
+    }
+
+    pub fn status(&self) -> u8 {
+        if self.mark {
+            2
+        } else {
+            0
+        }
+    }
+
+    pub fn push(&mut self, chunk: &[u8]) -> Said {
+        let before = self.held.len();
+        self.held.extend_from_slice(chunk);
+        let (mut at, mut discarded) = (0, 0_u64);
+        while !self.is_complete() {
+            match self.judge(at) {
+                Judged::Held => break,
+                Judged::Discarded(count) => {
+                    at += count;
+                    discarded += count as u64;
+                }
+                Judged::Collected => {
+                    self.collected.extend_from_slice(&self.held[at..at + FRAME]);
+                    at += FRAME;
+                }
+            }
+        }
+        let took = if self.is_complete() {
+            self.held.clear();
+            at - before
+        } else {
+            self.held.drain(..at);
+            chunk.len()
+        };
+        self.count(took, discarded);
+        let status = self.status();
+        Said { status, took }
+    }
+
+    /// The first of document 01's rules that applies to the bytes from `at` on.
+    fn judge(&mut self, at: usize) -> Judged {
+        let rest = &self.held[at..];
+        let start = rest.iter().position(|byte| *byte == START);
+        let before_start = start.unwrap_or(rest.len());
+        if before_start > 0 {
+            return Judged::Discarded(before_start);
+        }
+        if rest.len() < FRAME {
+            return Judged::Held;
+        }
+        let frame = &rest[..FRAME];
+        if frame[FRAME - 1] != frames::sum(frame) {
+            return Judged::Discarded(1);
+        }
+        if frame[2] != self.command {
+            return Judged::Discarded(FRAME);
+        }
+        let number = usize::from(frame[DATA]);
+        if self.wanted > 1 && !self.is_next(number) {
+            return Judged::Discarded(FRAME);
+        }
+        Judged::Collected
+    }
+
+    /// Number 1 drops all collected frames; then the number must be the next.
+    fn is_next(&mut self, number: usize) -> bool {
+        if number == 1 {
+            self.cleared = self.cleared.wrapping_add(self.frames() as u32);
+            self.collected.clear();
+        }
+        number == self.frames() + 1
+    }
+
+    /// Counts wrap, the mark does not.
+    fn count(&mut self, took: usize, discarded: u64) {
+        self.mark |= u64::from(self.discarded) + discarded > MOST_DISCARDED;
+        self.taken = self.taken.wrapping_add(took as u32);
+        self.discarded = self.discarded.wrapping_add(discarded as u32);
+    }
+}
+
+/// Which of document 01's reasons for an 8 hold, in its order. The fourth is of a reader with exactly
+/// the wanted frames, and the fifth of one with room for the held bytes, so that each can hold alone.
+pub fn bad_state(reader: &Reader) -> [bool; 6] {
+    let counts = &reader.counts;
+    let (wanted, collected, held) = (counts.wanted, counts.collected, counts.held);
+    let first = reader.frames.get(collected.saturating_mul(FRAME));
+    [
+        held > FRAME - 1,
+        wanted > MOST_WANTED,
+        collected > wanted,
+        collected == wanted && held > 0,
+        held > 0 && first.is_some_and(|byte| *byte != START),
+        u64::from(counts.discarded) > MOST_DISCARDED && counts.mark.0 == 0,
+    ]
+}

@@ -1,0 +1,113 @@
+//! The port's reader, as the static library exports it.
+
+use super::told::*;
+use crate::frames::LONGEST;
+use crate::port::Port;
+use crate::told::{CompletedTold, Left, ListTold, MissingTold};
+
+extern "C" {
+    fn daly_reader_new(request: *const u8, len: usize, reply_size: usize) -> Opened;
+    fn daly_reader_push(reader: Reader, chunk: *const u8, len: usize) -> Pushed;
+    fn daly_push_into(frames: *mut u8, counts: Counts, chunk: *const u8, len: usize) -> PushedInto;
+    fn daly_push_in_chunks(
+        frames: *mut u8,
+        counts: Counts,
+        stream: *const u8,
+        len: usize,
+        size: usize,
+    ) -> PushedInto;
+    fn daly_reader_missing(reader: Reader) -> MissingTold;
+    fn daly_reader_is_complete(reader: Reader) -> CompletedTold;
+    fn daly_reader_copy_out(reader: Reader, out: *mut u8, room: usize) -> ListTold;
+}
+
+/// The three pushes of the library.
+#[derive(Clone, Copy, Debug)]
+pub enum Way {
+    ByValue,
+    /// On frames lent by the caller.
+    Lent,
+    /// So too, in chunks of this size.
+    InChunks(usize),
+}
+
+/// Lends a copy of the reader's frames, with a fence on either side.
+fn lent(reader: &Reader, ask: impl FnOnce(*mut u8) -> PushedInto) -> After {
+    const START: usize = FENCE.len() / 2;
+    let mut buffer = [0; LONGEST + FENCE.len()];
+    buffer[..START].copy_from_slice(&FENCE[..START]);
+    buffer[START..START + LONGEST].copy_from_slice(&reader.frames);
+    buffer[START + LONGEST..].copy_from_slice(&FENCE[START..]);
+    // The pointer is to the whole buffer, so that a write to the fence is one to memory of ours.
+    let PushedInto { said, counts } = ask(buffer.as_mut_ptr().wrapping_add(START));
+    let mut after = After {
+        said,
+        reader: Reader { counts, ..*reader },
+        fence: FENCE,
+    };
+    after
+        .reader
+        .frames
+        .copy_from_slice(&buffer[START..START + LONGEST]);
+    after.fence[..START].copy_from_slice(&buffer[..START]);
+    after.fence[START..].copy_from_slice(&buffer[START + LONGEST..]);
+    after
+}
+
+impl Port {
+    pub fn open(&mut self, request: &[u8], size: usize) -> Opened {
+        // SAFETY: pointer and length are those of a live slice; of an empty one the pointer is not null.
+        self.answered(unsafe { daly_reader_new(request.as_ptr(), request.len(), size) })
+    }
+
+    pub fn push(&mut self, way: Way, reader: &Reader, chunk: &[u8]) -> After {
+        self.pushes += 1;
+        let (bytes, length) = (chunk.as_ptr(), chunk.len());
+        let after = match way {
+            Way::ByValue => {
+                // SAFETY: as in open.
+                let Pushed { said, reader } = unsafe { daly_reader_push(*reader, bytes, length) };
+                let fence = FENCE;
+                After {
+                    said,
+                    reader,
+                    fence,
+                }
+            }
+            Way::Lent => lent(reader, |frames| {
+                // SAFETY: as in open; `frames` are 1,105 places, alive and lent to nobody else.
+                unsafe { daly_push_into(frames, reader.counts, bytes, length) }
+            }),
+            Way::InChunks(size) => lent(reader, |frames| {
+                // SAFETY: as of Way::Lent.
+                unsafe { daly_push_in_chunks(frames, reader.counts, bytes, length, size) }
+            }),
+        };
+        self.answered(after)
+    }
+
+    pub fn missing(&mut self, reader: &Reader) -> MissingTold {
+        // SAFETY: nothing is lent.
+        self.answered(unsafe { daly_reader_missing(*reader) })
+    }
+
+    pub fn completed(&mut self, reader: &Reader) -> CompletedTold {
+        // SAFETY: nothing is lent.
+        self.answered(unsafe { daly_reader_is_complete(*reader) })
+    }
+
+    /// Lends `room` places of the buffer, from `start` on.
+    pub fn copy_out(
+        &mut self,
+        reader: &Reader,
+        mut buffer: Vec<u8>,
+        start: usize,
+        room: usize,
+    ) -> Left<u8> {
+        assert!(start + room <= buffer.len(), "no such places to lend");
+        let out = buffer.as_mut_ptr().wrapping_add(start);
+        // SAFETY: `out` has `room` places, alive and lent to nobody else.
+        let told = unsafe { daly_reader_copy_out(*reader, out, room) };
+        self.answered(Left { told, buffer })
+    }
+}

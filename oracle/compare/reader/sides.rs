@@ -1,0 +1,188 @@
+//! One reader on three sides, the port's, the Rust's and the model's, compared after every push.
+
+use super::model::{Model, MOST_DISCARDED};
+use super::opened;
+use super::port::Way;
+use super::streams::Asked;
+use super::told::*;
+use crate::original;
+use crate::told::{CompletedTold, MissingTold};
+use crate::trial::Trial;
+use dalybms_lib::protocol::exposed::{self, ReaderFields};
+use dalybms_lib::protocol::FrameReader;
+
+pub struct Sides {
+    pub ours: Reader,
+    /// The port's last status, and what its pushes took in all.
+    pub said: Said,
+    pub rust: FrameReader,
+    model: Model,
+    /// What came after completion: the Rust keeps it, ours leaves it with the caller.
+    left: Vec<u8>,
+}
+
+/// The first place where two rows of bytes differ, with what each has there.
+pub type Difference = Option<(usize, Option<u8>, Option<u8>)>;
+
+pub fn difference(wanted: &[u8], found: &[u8]) -> Difference {
+    if wanted == found {
+        return None;
+    }
+    (0..wanted.len().max(found.len()))
+        .map(|place| (place, wanted.get(place).copied(), found.get(place).copied()))
+        .find(|(_, wanted, found)| wanted != found)
+}
+
+/// Bytes as they are printed; no more than can be read.
+pub fn shown(bytes: &[u8]) -> String {
+    match bytes.len() {
+        0..=4000 => format!("{bytes:02X?}"),
+        length => format!("{length} bytes, first {:02X?}", &bytes[..4000]),
+    }
+}
+
+/// Before the first push.
+const NOTHING: Said = Said { status: 0, took: 0 };
+
+/// What the port says after a push.
+#[derive(Debug, PartialEq)]
+struct Ours {
+    said: Said,
+    counts: Counts,
+    missing: MissingTold,
+    completed: CompletedTold,
+    fence: Difference,
+    collected: Difference,
+    held: Difference,
+}
+
+/// What the Rust says after a push. Its count of discarded bytes has 64 bits.
+#[derive(Debug, PartialEq)]
+struct Theirs {
+    number: u8,
+    command: u8,
+    wanted: usize,
+    discarded: u32,
+    missing: usize,
+    complete: bool,
+    collected: Difference,
+    pending: Difference,
+}
+
+impl Sides {
+    /// Opens a reader on all sides; none where the port's is not the wanted one.
+    pub fn new(trial: &mut Trial, asked: Asked) -> Option<Self> {
+        let request = asked.request(&mut trial.random);
+        let ours = opened::compare(trial, &request, asked.size)?;
+        Some(Self {
+            ours,
+            said: NOTHING,
+            model: Model::new(asked.command, asked.size),
+            rust: FrameReader::new(&request, asked.size),
+            left: Vec::new(),
+        })
+    }
+
+    /// A reader in this state on all sides; none where the state is bad.
+    pub fn given(reader: &Reader) -> Option<Self> {
+        let model = Model::of(reader)?;
+        // Marked with a small count: the count has wrapped, the Rust's has not.
+        let wrapped = model.mark && u64::from(model.discarded) <= MOST_DISCARDED;
+        let rust = exposed::reader_with(ReaderFields {
+            command: model.command,
+            n_frames: model.wanted,
+            pending: &model.held,
+            frames: &model.collected,
+            discarded: model.discarded as usize + (usize::from(wrapped) << 32),
+        });
+        Some(Self {
+            ours: *reader,
+            said: NOTHING,
+            model,
+            rust,
+            left: Vec::new(),
+        })
+    }
+
+    /// Counts one case, and says whether all sides agree.
+    pub fn push(&mut self, trial: &mut Trial, way: Way, chunk: &[u8]) -> bool {
+        let after = trial.port.push(way, &self.ours, chunk);
+        let said = self.model.push(chunk);
+        let number = original::number(&self.rust.push(chunk));
+        self.left.extend_from_slice(&chunk[said.took..]);
+        let found = (self.found(trial, &after), self.theirs(number));
+        let wanted = (self.wanted(said), self.wanted_theirs());
+        let agree = trial.agrees(wanted, found, || {
+            format!("{way:?} {} chunk {}", self.ours.shown(), shown(chunk))
+        });
+        self.ours = after.reader;
+        self.said = Said {
+            status: after.said.status,
+            took: self.said.took.wrapping_add(after.said.took),
+        };
+        agree
+    }
+
+    fn wanted(&self, said: Said) -> Ours {
+        Ours {
+            said,
+            counts: self.model.counts(),
+            missing: MissingTold {
+                number: 0,
+                missing: self.model.missing(),
+            },
+            completed: CompletedTold {
+                number: 0,
+                complete: self.model.is_complete().into(),
+            },
+            fence: None,
+            collected: None,
+            held: None,
+        }
+    }
+
+    fn found(&self, trial: &mut Trial, after: &After) -> Ours {
+        let reader = &after.reader;
+        Ours {
+            said: after.said,
+            counts: reader.counts,
+            missing: trial.port.missing(reader),
+            completed: trial.port.completed(reader),
+            fence: difference(&FENCE, &after.fence),
+            collected: difference(&self.model.collected, reader.collected()),
+            held: difference(&self.model.held, reader.held()),
+        }
+    }
+
+    fn wanted_theirs(&self) -> Theirs {
+        Theirs {
+            number: self.model.status(),
+            command: self.model.command,
+            wanted: self.model.wanted,
+            discarded: self.model.discarded,
+            missing: self.model.missing(),
+            complete: self.model.is_complete(),
+            collected: None,
+            pending: None,
+        }
+    }
+
+    fn theirs(&self, number: u8) -> Theirs {
+        let fields = exposed::reader_fields(&self.rust);
+        let pending = if self.model.is_complete() {
+            &self.left
+        } else {
+            &self.model.held
+        };
+        Theirs {
+            number,
+            command: fields.command,
+            wanted: fields.n_frames,
+            discarded: fields.discarded as u32,
+            missing: self.rust.missing(),
+            complete: self.rust.is_complete(),
+            collected: difference(&self.model.collected, fields.frames),
+            pending: difference(pending, fields.pending),
+        }
+    }
+}

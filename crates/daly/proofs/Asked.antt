@@ -1,5 +1,5 @@
 -- One arm of `daly_request`, and the pinning of its statement. Assumes nothing.
-use mathlib.Core.Path.{_≡_, _∙_}
+use mathlib.Core.Path.{_≡_}
 use mathlib.Core.Bool.{Bool, true, false}
 use mathlib.Core.List.{List}
 use Prim.Native.Nat.{ℕ}
@@ -8,9 +8,9 @@ use Rattle.wire.proofs.Decides.{both, same-both}
 use Rattle.daly.specs.Requests.{oneOf, commands, requestOf, Requests}
 
 module _ {command : ℕ} {enable : Bool} {percent : Float} {out exit : List ℕ} where
-  -- the command is k, one of the thirteen, and its request, bytes, was handed over
-  pub asked : {r : ℕ} {bytes : List ℕ} (k : ℕ) → command ≡ k → oneOf commands k ≡ true → (r ≡ 0) × (exit ≡ bytes) → bytes ≡ requestOf k enable percent → Requests command enable percent out r exit
-  asked k e known sent is = record { answer = rw (e, known) (sent .0); left = rw (e, known) (sent .1 ∙ is) }
+  -- the command is k, one of the thirteen, and its request was handed over
+  pub asked : (k : ℕ) → command ≡ k → oneOf commands k ≡ true → exit ≡ requestOf k enable percent → Requests command enable percent out 0 exit
+  asked k e known is = record { answer = rw (e, known); left = rw (e, known) is }
 
   -- it is none of them
   pub not-asked : {r : ℕ} → oneOf commands command ≡ false → r ≡ 10 → exit ≡ out → Requests command enable percent out r exit

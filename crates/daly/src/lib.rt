@@ -29,14 +29,6 @@ pub extern "C" fn daly_frame_refusal(buffer: &[u8], k: usize) -> u8
     frame::frame_refusal(buffer, k)
 }
 
-// A request handed over, and 0 for done.
-fn send(out: &mut [u8; 13], bytes: [u8; 13]) -> u8
-    ensures { λ r. ⌜ (r ≡ 0) × (now (out .exit) ≡ bytes) ⌝ }
-{
-    *out = bytes;
-    0
-}
-
 // The request of a command, into `out`. `enable` is read for D9 and DA, `soc_percent` for 21.
 // A command that no request has is refused, and `out` stays as it was.
 #[no_mangle]
@@ -49,19 +41,20 @@ pub extern "C" fn daly_request(
     ensures { λ r. ⌜ Requests command enable «soc_percent» (now (out .entry)) r (now (out .exit)) ⌝ }
 {
     match command {
-        0x90 => send(out, request::soc()),
-        0x91 => send(out, request::cell_voltage_range()),
-        0x92 => send(out, request::temperature_range()),
-        0x93 => send(out, request::mosfet_status()),
-        0x94 => send(out, request::status()),
-        0x95 => send(out, request::cell_voltages()),
-        0x96 => send(out, request::cell_temperatures()),
-        0x97 => send(out, request::cell_balance_state()),
-        0x98 => send(out, request::error_code()),
-        0xD9 => send(out, request::set_discharge_mosfet(enable)),
-        0xDA => send(out, request::set_charge_mosfet(enable)),
-        0x21 => send(out, request::set_soc(soc_percent)),
-        0x00 => send(out, request::bms_reset()),
-        _ => frame::Refusal::UnknownCommand.number(),
+        0x90 => *out = request::soc(),
+        0x91 => *out = request::cell_voltage_range(),
+        0x92 => *out = request::temperature_range(),
+        0x93 => *out = request::mosfet_status(),
+        0x94 => *out = request::status(),
+        0x95 => *out = request::cell_voltages(),
+        0x96 => *out = request::cell_temperatures(),
+        0x97 => *out = request::cell_balance_state(),
+        0x98 => *out = request::error_code(),
+        0xD9 => *out = request::set_discharge_mosfet(enable),
+        0xDA => *out = request::set_charge_mosfet(enable),
+        0x21 => *out = request::set_soc(soc_percent),
+        0x00 => *out = request::bms_reset(),
+        _ => return frame::Refusal::UnknownCommand.number(),
     }
+    0
 }

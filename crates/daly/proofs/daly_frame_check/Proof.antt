@@ -1,3 +1,5 @@
+use mathlib.Core.Path.{ap, _∙_}
+use Rattle.frame.specs.Refusals.{checkNumber}
 use borrow.Author.Needs.{needs}
 use Rattle.daly.proofs.daly_frame_check.Statement.{statement}
 use Rattle.daly.proofs.daly_frame_check.Tie as tie
@@ -9,7 +11,7 @@ number-requires : tie.Need-number-requires
 number-requires c κs = search needs
 
 returns : tie.Need-returns
-returns c = cc
+returns c = c .number .ensures ∙ ap checkNumber (c .before .frame-check .ensures)
 
 pub daly-frame-check-spec : {M : Type 1} → statement M
 daly-frame-check-spec = tie.close (tie.spec frame-check-requires number-requires returns)

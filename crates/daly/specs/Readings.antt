@@ -4,31 +4,31 @@ use mathlib.Core.Bool.{false}
 use lib.IntN.{pos}
 use lib.Ieee.{Float, binary32, ofBits}
 use Rattle.frame.specs.Refusals.{refusalNumber}
-use Rattle.reading.specs.declared.mosfet_status.MosfetMode.{MosfetMode}
-use Rattle.reading.specs.declared.mosfet_status.MosfetMode.the-variants.{Stationary, Charging, Discharging}
-use Rattle.reading.specs.declared.soc.SocAnswer.{SocAnswer}
-use Rattle.reading.specs.declared.soc.SocAnswer.the-variants.{SocGiven, SocRefused}
+use Rattle.mosfet_status.specs.declared.MosfetMode.{MosfetMode}
+use Rattle.mosfet_status.specs.declared.MosfetMode.the-variants.{Stationary, Charging, Discharging}
+use Rattle.soc.specs.declared.SocAnswer.{SocAnswer}
+use Rattle.soc.specs.declared.SocAnswer.the-variants.{SocGiven, SocRefused}
 use Rattle.daly.specs.declared.readings.SocTold.{SocTold}
-use Rattle.reading.specs.declared.soc.SocCountsAnswer.{SocCountsAnswer}
-use Rattle.reading.specs.declared.soc.SocCountsAnswer.the-variants.{SocCountsGiven, SocCountsRefused}
+use Rattle.soc.specs.declared.SocCountsAnswer.{SocCountsAnswer}
+use Rattle.soc.specs.declared.SocCountsAnswer.the-variants.{SocCountsGiven, SocCountsRefused}
 use Rattle.daly.specs.declared.readings.SocCountsTold.{SocCountsTold}
-use Rattle.reading.specs.declared.cell_voltage_range.CellVoltageRangeAnswer.{CellVoltageRangeAnswer}
-use Rattle.reading.specs.declared.cell_voltage_range.CellVoltageRangeAnswer.the-variants.{CellVoltageRangeGiven, CellVoltageRangeRefused}
+use Rattle.cell_voltage_range.specs.declared.CellVoltageRangeAnswer.{CellVoltageRangeAnswer}
+use Rattle.cell_voltage_range.specs.declared.CellVoltageRangeAnswer.the-variants.{CellVoltageRangeGiven, CellVoltageRangeRefused}
 use Rattle.daly.specs.declared.readings.CellVoltageRangeTold.{CellVoltageRangeTold}
-use Rattle.reading.specs.declared.cell_voltage_range.CellVoltageRangeCountsAnswer.{CellVoltageRangeCountsAnswer}
-use Rattle.reading.specs.declared.cell_voltage_range.CellVoltageRangeCountsAnswer.the-variants.{CellVoltageRangeCountsGiven, CellVoltageRangeCountsRefused}
+use Rattle.cell_voltage_range.specs.declared.CellVoltageRangeCountsAnswer.{CellVoltageRangeCountsAnswer}
+use Rattle.cell_voltage_range.specs.declared.CellVoltageRangeCountsAnswer.the-variants.{CellVoltageRangeCountsGiven, CellVoltageRangeCountsRefused}
 use Rattle.daly.specs.declared.readings.CellVoltageRangeCountsTold.{CellVoltageRangeCountsTold}
-use Rattle.reading.specs.declared.temperature_range.TemperatureRangeAnswer.{TemperatureRangeAnswer}
-use Rattle.reading.specs.declared.temperature_range.TemperatureRangeAnswer.the-variants.{TemperatureRangeGiven, TemperatureRangeRefused}
+use Rattle.temperature_range.specs.declared.TemperatureRangeAnswer.{TemperatureRangeAnswer}
+use Rattle.temperature_range.specs.declared.TemperatureRangeAnswer.the-variants.{TemperatureRangeGiven, TemperatureRangeRefused}
 use Rattle.daly.specs.declared.readings.TemperatureRangeTold.{TemperatureRangeTold}
-use Rattle.reading.specs.declared.mosfet_status.MosfetStatusAnswer.{MosfetStatusAnswer}
-use Rattle.reading.specs.declared.mosfet_status.MosfetStatusAnswer.the-variants.{MosfetStatusGiven, MosfetStatusRefused}
+use Rattle.mosfet_status.specs.declared.MosfetStatusAnswer.{MosfetStatusAnswer}
+use Rattle.mosfet_status.specs.declared.MosfetStatusAnswer.the-variants.{MosfetStatusGiven, MosfetStatusRefused}
 use Rattle.daly.specs.declared.readings.MosfetStatusTold.{MosfetStatusTold}
-use Rattle.reading.specs.declared.mosfet_status.MosfetStatusCountsAnswer.{MosfetStatusCountsAnswer}
-use Rattle.reading.specs.declared.mosfet_status.MosfetStatusCountsAnswer.the-variants.{MosfetStatusCountsGiven, MosfetStatusCountsRefused}
+use Rattle.mosfet_status.specs.declared.MosfetStatusCountsAnswer.{MosfetStatusCountsAnswer}
+use Rattle.mosfet_status.specs.declared.MosfetStatusCountsAnswer.the-variants.{MosfetStatusCountsGiven, MosfetStatusCountsRefused}
 use Rattle.daly.specs.declared.readings.MosfetStatusCountsTold.{MosfetStatusCountsTold}
-use Rattle.reading.specs.declared.status.StatusAnswer.{StatusAnswer}
-use Rattle.reading.specs.declared.status.StatusAnswer.the-variants.{StatusGiven, StatusRefused}
+use Rattle.status.specs.declared.StatusAnswer.{StatusAnswer}
+use Rattle.status.specs.declared.StatusAnswer.the-variants.{StatusGiven, StatusRefused}
 use Rattle.daly.specs.declared.readings.StatusTold.{StatusTold}
 
 -- "the mode 0 to 2"

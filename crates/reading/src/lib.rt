@@ -1,19 +1,12 @@
-// One-frame replies: whole counts as the wire has them, and the records with `f32` fields on top of them.
-// Each decoder makes the frame check on the whole lent buffer and then reads its bytes.
+// One-frame replies. Each decoder makes the frame check on the whole lent buffer and then reads its bytes.
+// Those that read have a crate each; those that are only checked stand here.
 ghost use mathlib.Core.Path.{_≡_};
 ghost use Rattle.frame.specs.Checks.{frameCheck};
-use frame::Check;
-
-mod cell_voltage_range;
-mod mosfet_status;
-mod soc;
-mod status;
-mod temperature_range;
-
 pub use cell_voltage_range::CellVoltageRange;
 pub use cell_voltage_range::CellVoltageRangeAnswer;
 pub use cell_voltage_range::CellVoltageRangeCounts;
 pub use cell_voltage_range::CellVoltageRangeCountsAnswer;
+use frame::Check;
 pub use mosfet_status::MosfetMode;
 pub use mosfet_status::MosfetStatus;
 pub use mosfet_status::MosfetStatusAnswer;

@@ -73,6 +73,13 @@ window s at = take 13 (drop at s)
 pub in-window : (s : List ℕ) (at i : ℕ) → i < 13 → getD (window s at) i 0 ≡ getD s (at + i) 0
 in-window s at i h = getD-take 13 (drop at s) i 0 h ∙ getD-drop at s i 0
 
+-- the same, as a slice of the code has it
+abbrev pub cut : List ℕ → ℕ → List ℕ
+cut s at = take (at + 13 - at) (drop at s)
+
+pub cut-is : (s : List ℕ) (at : ℕ) → cut s at ≡ window s at
+cut-is s at = let e : at + 13 - at ≡ 13 = omega arith in rw e
+
 pub first-of : (s : List ℕ) (at : ℕ) → getD (drop at s) 0 0 ≡ getD s at 0
 first-of s at = getD-drop at s 0 0 ∙ rw add-zero
 

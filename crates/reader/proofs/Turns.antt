@@ -19,7 +19,7 @@ use Rattle.rules.proofs.Good.{look-noise}
 use Rattle.reader.specs.View.{chop}
 use Rattle.reader.proofs.Parts.{length-chop}
 use Rattle.reader.specs.View.{config}
-use Rattle.reader.proofs.Parts.{window, first-of, chop-copied}
+use Rattle.reader.proofs.Parts.{window, cut, cut-is, first-of, chop-copied}
 use Rattle.reader.specs.Steps.{Ran}
 use Rattle.reader.proofs.Judge.{is-collected, is-discarded, stays}
 
@@ -103,22 +103,26 @@ module _ (c : Config) (o₀ : Outcome) (x₀ : ℕ) (s f : List ℕ) (have at l 
         ∙ ap (λ (n : ℕ). some (judge c n (window s at))) (length-chop have f)
 
     -- d bytes are discarded
-    pub here-discarded : (d : ℕ) → d ≡ lost (judge c have (window s at)) → (d ≡ 0 → ⊥) → Here c o₀ x₀ s f have (at + d) (l + d) x
-    here-discarded d e n = go (is-discarded (judge c have (window s at)) (λ q. n (e ∙ sym q)))
+    pub here-discarded : (d : ℕ) → d ≡ lost (judge c have (cut s at)) → (d ≡ 0 → ⊥) → Here c o₀ x₀ s f have (at + d) (l + d) x
+    here-discarded d f′ n = go (is-discarded (judge c have (window s at)) (λ q. n (e ∙ sym q)))
       where
+        e : d ≡ lost (judge c have (window s at))
+        e = f′ ∙ ap (λ (v : List ℕ). lost (judge c have v)) (cut-is s at)
+
         go : (y : Why) × (judge c have (window s at) ≡ discarded y) → Here c o₀ x₀ s f have (at + d) (l + d) x
         go (y, q) =
             let k : d ≡ span y = e ∙ ap lost q in
             rw (k, ← drop-drop (span y) at s) (ahead-discarded c o₀ x₀ (chop have f) (drop at s) l x y (judged ∙ ap (λ (a : Fate). some a) q) here)
 
     -- a frame is collected behind the first k
-    pub here-collected : (k x′ : ℕ) (g : List ℕ) → 0 ≡ lost (judge c have (window s at)) → k ≡ (if restarts (config 0 (c .wanted)) (window s at) then 0 else have)
+    pub here-collected : (k x′ : ℕ) (g : List ℕ) → 0 ≡ lost (judge c have (cut s at)) → k ≡ (if restarts (config 0 (c .wanted)) (cut s at) then 0 else have)
         → g ≡ paste f (13 * k) (drop at s) 13 → 13 * k + 13 ≤ length f → x′ ≡ wrap (x + (have - k)) → Here c o₀ x₀ s g (k + 1) (at + 13) l x′
     unfolding after
     here-collected k x′ g e ke ge room xe =
-        let q = stays c (window s at) f have k ke in
+        let q = stays c (window s at) f have k (ke ∙ ap (λ (v : List ℕ). if restarts (config 0 (c .wanted)) v then 0 else have) (cut-is s at)) in
+        let e′ : 0 ≡ lost (judge c have (window s at)) = e ∙ ap (λ (v : List ℕ). lost (judge c have v)) (cut-is s at) in
         let t : Ahead o₀ x₀ (run c (stay c (window s at) (chop have f) ++ (window s at ∷ [])) (drop 13 (drop at s))) (l + 0) (wrap (x + drops c collected (window s at) (chop have f))) =
-        ahead-turn c o₀ x₀ (chop have f) (drop at s) l x collected (judged ∙ ap (λ (a : Fate). some a) (is-collected (judge c have (window s at)) e)) here in
+        ahead-turn c o₀ x₀ (chop have f) (drop at s) l x collected (judged ∙ ap (λ (a : Fate). some a) (is-collected (judge c have (window s at)) e′)) here in
         let u : Ahead o₀ x₀ (run c (chop (k + 1) g) (drop (at + 13) s)) (l + 0) (wrap (x + (have - k))) =
         rw (ge, chop-copied f s k at room b, ← q .0, ← q .1, ← drop-drop 13 at s) t in
         record { collected = u .collected; rest = u .rest; lost = omega (arith, u .lost); cleared = rw xe (u .cleared) }

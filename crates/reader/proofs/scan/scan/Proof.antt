@@ -117,9 +117,8 @@ loop-again-2 c =
     let e = i .before .before in
     let l = e .before .before .loop in
     let a = e .before .before .before .before .args in
-    let p : l .at + 13 - l .at ≡ 13 = omega arith in
-    let d = rw p at (k .before .discards .ensures) in
-    let st = rw p at (c .before .before .before .staying .ensures) in
+    let d = k .before .discards .ensures in
+    let st = c .before .before .before .staying .ensures in
     let b : l .at + 13 ≤ length (a .s .now) = omega (arith, k .before .before .before .if3 .left) in
     let full : length (l .frames) ≡ 1105 = c .before .before .copy-arg .given .0 .1 in
     let room : 13 * c .before .before .before .staying .result + 13 ≤ length (l .frames) = omega (arith, full, e .if1 .left, st .1) in (
@@ -148,8 +147,7 @@ loop-again-3 c =
     let e = i .before .before in
     let l = e .before .before .loop in
     let a = e .before .before .before .before .args in
-    let p : l .at + 13 - l .at ≡ 13 = omega arith in
-    let d = rw p at (c .before .discards .ensures) in
+    let d = c .before .discards .ensures in
     let b : l .at + 13 ≤ length (a .s .now) = omega (arith, c .before .before .before .if3 .left) in (
       here-discarded _ _ _ (a .s .now) _ _ (l .at) _ _ (l .inv .0)
           (e .if1 .left) b (i .if2 .left)

@@ -7,6 +7,8 @@ ghost use Rattle.reader.specs.View.{view, Answered};
 ghost use Rattle.reader.specs.Told.{opened, freshReader, missingTold, completeTold};
 use frame::Refusal;
 use list::Listed;
+use moves::advance;
+use scan::add_count;
 
 mod moves;
 mod scan;
@@ -75,34 +77,32 @@ pub struct Completed {
 }
 
 // A push on the frames, lent, and the numbers by value: the core, which copies no frame that it does not collect.
-pub fn push_into(frames: &mut [u8; 1105], counts: Counts, chunk: &[u8]) -> Told
-    ensures { λ r. ⌜ Answered (now (frames .entry)) counts (now (chunk .entry)) (r .said .status) (r .said .took) (r .counts) (now (frames .exit)) ⌝ }
+pub fn push_into(frames: &mut [u8; 1105], c: Counts, chunk: &[u8]) -> Told
+    ensures { λ r. ⌜ Answered (now (frames .entry)) c (now (chunk .entry)) (r .said .status) (r .said .took) (r .counts) (now (frames .exit)) ⌝ }
 {
-    if state::state_number(frames, counts) != 0 {
+    if state::state_number(frames, c) != 0 {
         return Told {
             said: Said { status: 8, took: 0 },
-            counts: counts,
+            counts: c,
         };
     }
-    let m = moves::advance(
+    let m = advance(
         frames,
-        counts.held,
+        c.held,
         chunk,
-        counts.command,
-        counts.wanted,
-        counts.collected,
-        counts.cleared,
+        c.command,
+        c.wanted,
+        c.collected,
+        c.cleared,
     );
-    let mark = state::passed(counts.mark, counts.discarded, m.lost);
-    let taken = scan::add_count(counts.taken, m.took);
-    let discarded = scan::add_count(counts.discarded, m.lost);
+    let mark = state::passed(c.mark, c.discarded, m.lost);
     let next = Counts {
-        command: counts.command,
+        command: c.command,
         mark: mark,
-        taken: taken,
-        discarded: discarded,
+        taken: add_count(c.taken, m.took),
+        discarded: add_count(c.discarded, m.lost),
         cleared: m.cleared,
-        wanted: counts.wanted,
+        wanted: c.wanted,
         collected: m.collected,
         held: m.held,
     };

@@ -10,13 +10,13 @@ state-number-requires c κs = search needs
 returns : tie.Need-returns
 returns c =
     let a = c .before .before .before .before .args in
-    answered-bad (a .frames .now) (a .counts) (a .chunk .now) (is-refused (a .counts) (a .frames .now) (c .before .state-number .result) (c .before .state-number .ensures) (c .if1 .taken))
+    answered-bad (a .frames .now) (a .c) (a .chunk .now) (is-refused (a .c) (a .frames .now) (c .before .state-number .result) (c .before .state-number .ensures) (c .if1 .taken))
 
 advance-requires : tie.Need-advance-requires
 advance-requires c κs =
     let e = c .before in
     let a = e .before .before .before .before .args in
-    sane (a .counts) (a .frames .now) (not-refused (a .counts) (a .frames .now) (e .before .state-number .result) (e .before .state-number .ensures) (e .if1 .left))
+    sane (a .c) (a .frames .now) (not-refused (a .c) (a .frames .now) (e .before .state-number .result) (e .before .state-number .ensures) (e .if1 .left))
 
 passed-requires : tie.Need-passed-requires
 passed-requires c κs = search needs
@@ -36,9 +36,9 @@ returns-2 c =
     let v = p .before in
     let e = v .before .before in
     let a = e .before .before .before .before .args in
-    answered (a .frames .now) (a .counts) (a .chunk .now) (v .advance .last .0) (v .advance .result) (p .passed .result)
+    answered (a .frames .now) (a .c) (a .chunk .now) (v .advance .last .0) (v .advance .result) (p .passed .result)
     (c .before .before .add-count .result) (c .before .add-count2 .result) (c .status-of .result)
-    (not-refused (a .counts) (a .frames .now) (e .before .state-number .result) (e .before .state-number .ensures) (e .if1 .left)) (v .advance .ensures) (p .passed .ensures)
+    (not-refused (a .c) (a .frames .now) (e .before .state-number .result) (e .before .state-number .ensures) (e .if1 .left)) (v .advance .ensures) (p .passed .ensures)
     (c .before .before .add-count .ensures) (c .before .add-count2 .ensures) (c .status-of .ensures)
 
 pub push-into-spec : {M : Type 1} → statement M

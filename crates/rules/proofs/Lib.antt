@@ -5,4 +5,5 @@ pub mod Account
 pub mod Complete
 pub mod Good
 pub mod Demand
+pub mod Restart
 pub mod Examples

@@ -1,0 +1,49 @@
+use Rattle.report.proofs.Laws.{put-as}
+use mathlib.Core.Path.{ap, sym, _∙_}
+use Rattle.report.specs.Fields.{socText}
+use borrow.Author.Needs.{needs}
+use Rattle.report.proofs.fields.put_soc.Statement.{statement}
+use Rattle.report.proofs.fields.put_soc.Tie as tie
+
+decode-requires : tie.Need-decode-requires
+decode-requires c κs = search needs
+
+enum-known-refusal : tie.Need-enum-known-refusal
+enum-known-refusal c = search needs
+
+put-refusal-requires : tie.Need-put-refusal-requires
+put-refusal-requires c κs = search needs
+
+enum-known-counts : tie.Need-enum-known-counts
+enum-known-counts c = search needs
+
+put-soc-lines-requires : tie.Need-put-soc-lines-requires
+put-soc-lines-requires c κs = search needs
+
+same-length : tie.Need-same-length
+same-length c = search needs
+
+returns : tie.Need-returns
+returns c =
+    put-as (ap socText (sym (c .before .before .before .before .before .refusal .given .1) ∙ c .before .before .before .before .before .before .before .decode .ensures)) (c .before .before .put-refusal .ensures)
+
+same-length-2 : tie.Need-same-length-2
+same-length-2 c = search needs
+
+returns-2 : tie.Need-returns-2
+returns-2 c =
+    put-as (ap socText (sym (c .before .before .before .before .before .counts .given .1) ∙ c .before .before .before .before .before .before .before .decode .ensures)) (c .before .before .put-soc-lines .ensures)
+
+pub put-soc-spec : {M : Type 1} → statement M
+put-soc-spec =
+    tie.close
+    (tie.spec
+    decode-requires
+    enum-known-refusal
+    put-refusal-requires
+    enum-known-counts
+    put-soc-lines-requires
+    same-length
+    returns
+    same-length-2
+    returns-2)

@@ -1,10 +1,9 @@
 //! The collected bytes copied out, into some places of a larger buffer.
 
-use super::kinds::{cut, pushed};
+use super::kinds::{cut, mixture, pushed};
 use super::model::{Model, MOST_WANTED};
 use super::sides::difference;
 use super::states;
-use super::streams::{self, Asked};
 use super::told::Reader;
 use super::OF;
 use crate::frames::{FRAME, LONGEST};
@@ -88,10 +87,7 @@ fn every_room(trial: &mut Trial) {
 /// Of readers that were pushed, not made by hand.
 fn after_streams(trial: &mut Trial) {
     for _ in 0..trial.rounds(2_000) {
-        let wanted = trial.random.below(20);
-        let asked = Asked::drawn(&mut trial.random, wanted);
-        let stream = streams::mixed(&mut trial.random, asked);
-        trial.streams += 1;
+        let (asked, stream) = mixture(trial, 20);
         let chunks = cut(&mut trial.random, &stream);
         let some = trial.random.below(chunks.len() + 1);
         if let Some(sides) = pushed(trial, asked, &chunks[..some]) {

@@ -1,6 +1,6 @@
 //! How the line cuts a stream does not matter, nor which of the pushes is asked.
 
-use super::kinds::{chunk_size, cut, way};
+use super::kinds::{chunk_size, cut, mixture, way};
 use super::port::Way;
 use super::sides::{difference, shown, Difference, Sides};
 use super::states;
@@ -91,10 +91,7 @@ fn compare(trial: &mut Trial, asked: Asked, stream: &[u8], cuttings: &[Vec<(Way,
 
 fn cuttings(trial: &mut Trial) {
     for _ in 0..trial.rounds(20_000) {
-        let wanted = trial.random.below(12);
-        let asked = Asked::drawn(&mut trial.random, wanted);
-        let stream = streams::mixed(&mut trial.random, asked);
-        trial.streams += 1;
+        let (asked, stream) = mixture(trial, 12);
         let mut cuttings = Vec::new();
         for _ in 0..2 {
             let chunks = cut(&mut trial.random, &stream);

@@ -174,3 +174,11 @@ fn every_restart(trial: &mut Trial) {
         }
     }
 }
+
+/// A stream of every sort of thing, for fewer than `most` frames. It counts as one.
+pub fn mixture(trial: &mut Trial, most: usize) -> (Asked, Vec<u8>) {
+    let wanted = trial.random.below(most);
+    let asked = Asked::drawn(&mut trial.random, wanted);
+    trial.streams += 1;
+    (asked, streams::mixed(&mut trial.random, asked))
+}

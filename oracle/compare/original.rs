@@ -1,7 +1,6 @@
 //! The Rust, with its answers in the form of the port's.
 
 use crate::frames::FRAME;
-use crate::port::Sent;
 use crate::told::*;
 use dalybms_lib::protocol::*;
 use dalybms_lib::Error;

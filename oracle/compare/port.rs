@@ -74,9 +74,6 @@ pub unsafe extern "C" fn error_codes(
     unsafe { daly_error_codes(p, len, out, room) }
 }
 
-/// The number that a request answers, then the 13 bytes of its output.
-pub type Sent = [u8; 1 + FRAME];
-
 /// One bit of one answer to be falsified: a part that then finds no mismatch compares nothing.
 #[derive(Clone, Copy)]
 pub struct Spoil {

@@ -3,6 +3,7 @@
 mod bad;
 mod copies;
 mod cuts;
+mod discards;
 mod kinds;
 mod long;
 mod model;

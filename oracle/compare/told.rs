@@ -1,5 +1,6 @@
 //! The port's answers, as the static library lays them out.
 
+use crate::frames::FRAME;
 use crate::random::Random;
 use std::fmt::{self, Debug, Formatter};
 
@@ -219,6 +220,9 @@ told! {
         complete: Flag,
     }
 }
+
+/// The number that a request answers, then the 13 bytes of its output.
+pub type Sent = [u8; 1 + FRAME];
 
 /// A list's answer, and the whole buffer after the call: the places lent, and those behind them.
 pub struct Left<P> {

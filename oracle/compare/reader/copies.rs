@@ -1,9 +1,10 @@
 //! The collected bytes copied out, into some places of a larger buffer.
 
-use super::kinds::{cut, mixture, pushed};
+use super::kinds::{mixture, pushed};
 use super::model::{Model, MOST_WANTED};
 use super::sides::difference;
 use super::states;
+use super::streams::cut;
 use super::told::Reader;
 use super::OF;
 use crate::frames::{FRAME, LONGEST};

@@ -1,10 +1,10 @@
 //! How the line cuts a stream does not matter, nor which of the pushes is asked.
 
-use super::kinds::{chunk_size, cut, mixture, way};
+use super::kinds::{chunk_size, mixture, way};
 use super::port::Way;
 use super::sides::{difference, shown, Difference, Sides};
 use super::states;
-use super::streams::{self, Asked};
+use super::streams::{self, cut, Asked};
 use super::told::*;
 use super::OF;
 use crate::trial::{Part, Trial};

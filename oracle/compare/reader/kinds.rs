@@ -3,7 +3,7 @@
 use super::model::MOST_WANTED;
 use super::port::Way;
 use super::sides::Sides;
-use super::streams::{self, Asked, Make};
+use super::streams::{self, cut, Asked, Make};
 use super::OF;
 use crate::frames;
 use crate::random::Random;
@@ -137,20 +137,6 @@ pub fn chunk_size(random: &mut Random) -> usize {
         2 => random.below(1500),
         _ => random.below(30),
     }
-}
-
-/// Cut at random, finely or coarsely, with empty chunks among the others.
-pub fn cut<'a>(random: &mut Random, stream: &'a [u8]) -> Vec<&'a [u8]> {
-    let longest = [1, 2, 5, 12, 13, 14, 40, 300][random.below(8)];
-    let mut chunks = Vec::new();
-    let mut rest = stream;
-    while !rest.is_empty() {
-        let length = random.below(longest + 1).min(rest.len());
-        let (chunk, behind) = rest.split_at(length);
-        chunks.push(chunk);
-        rest = behind;
-    }
-    chunks
 }
 
 /// Frames 1 to k, then all: k frames are cleared and nothing is discarded.

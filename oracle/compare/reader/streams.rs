@@ -284,3 +284,17 @@ pub fn onward(random: &mut Random, asked: Asked, first: usize) -> Vec<u8> {
     }
     stream
 }
+
+/// Cut at random, finely or coarsely, with empty chunks among the others.
+pub fn cut<'a>(random: &mut Random, stream: &'a [u8]) -> Vec<&'a [u8]> {
+    let longest = [1, 2, 5, 12, 13, 14, 40, 300][random.below(8)];
+    let mut chunks = Vec::new();
+    let mut rest = stream;
+    while !rest.is_empty() {
+        let length = random.below(longest + 1).min(rest.len());
+        let (chunk, behind) = rest.split_at(length);
+        chunks.push(chunk);
+        rest = behind;
+    }
+    chunks
+}

@@ -1,11 +1,11 @@
 //! Counts given by hand that wrap: the mark does not.
 
-use super::kinds::{cut, way};
+use super::discards::before_start;
+use super::kinds::way;
 use super::model::MOST_WANTED;
-use super::over::before_start;
 use super::sides::Sides;
 use super::states;
-use super::streams::{self, Asked};
+use super::streams::{self, cut, Asked};
 use super::told::{Counts, Reader};
 use super::OF;
 use crate::frames::FRAME;

@@ -1,0 +1,343 @@
+//! The stored samples: small inputs, each with what the Rust makes of it. A name begins with the command
+//! and says what is shown.
+
+use crate::inputs::{asked, input, noise, question, COMMANDS, EXAMPLE};
+use crate::part::{cases, Part};
+use reference::frames::{put_sum, FRAME, START};
+use reference::random::Random;
+use std::collections::BTreeMap;
+use std::{fs, io};
+
+const PLACE: &str = "data/readreply";
+/// So that the drawn bytes of a sample are always the same.
+const SEED: u64 = 1;
+
+pub const PARTS: &[Part] = &[Part::new("the stored samples", 100, |random| {
+    let inputs = all().into_values().collect();
+    cases(random, inputs)
+})];
+
+type Samples = BTreeMap<String, Vec<u8>>;
+
+/// A frame as a board sends it.
+fn frame(command: u8, data: [u8; 8]) -> Vec<u8> {
+    let mut frame = vec![START, 0x01, command, 0x08];
+    frame.extend(data);
+    frame.push(0);
+    put_sum(&mut frame);
+    frame
+}
+
+/// A numbered frame whose values are told apart.
+fn numbered(command: u8, number: usize) -> Vec<u8> {
+    let first = 7 * number as u8;
+    let mut data = [0, 12, first, 12, first + 1, 13, first + 2, first + 3];
+    data[0] = number as u8;
+    frame(command, data)
+}
+
+/// The frames from one number to another.
+fn run(command: u8, first: usize, last: usize) -> Vec<u8> {
+    (first..=last)
+        .flat_map(|number| numbered(command, number))
+        .collect()
+}
+
+/// A right reply, with drawn bytes where its command says nothing.
+fn reply(command: u8, count: u8) -> Vec<u8> {
+    match command {
+        0x95 | 0x96 => run(command, 1, asked(command, count).wanted),
+        _ => frame(command, DATA_OF[usize::from(command - 0x90)]),
+    }
+}
+
+/// What the one-frame replies carry, from 90 on.
+const DATA_OF: [[u8; 8]; 9] = [
+    [0x02, 0x0B, 0x00, 0x00, 0x75, 0x94, 0x03, 0x6A],
+    [0x10, 0x0A, 0x03, 0x0F, 0xFC, 0x0B, 0x00, 0x00],
+    [0x42, 0x01, 0x3E, 0x02, 0x00, 0x00, 0x00, 0x00],
+    [0x01, 0x01, 0x00, 0x17, 0x00, 0x01, 0x86, 0xA0],
+    [0x10, 0x04, 0x01, 0x00, 0x5A, 0x01, 0x2C, 0x00],
+    [0; 8],
+    [0; 8],
+    [0x05, 0x80, 0x00, 0x00, 0x00, 0x01, 0x00, 0x00],
+    [0x04, 0x00, 0x03, 0x00, 0x00, 0x20, 0x00, 0x00],
+];
+
+/// All samples by name.
+pub fn all() -> Samples {
+    let mut samples = Samples::new();
+    let put: &mut dyn FnMut(String, Vec<u8>) = &mut |name, input| {
+        assert!(
+            samples.insert(name.clone(), input).is_none(),
+            "{name} twice"
+        );
+    };
+    put("90-example".to_string(), EXAMPLE.to_vec());
+    every_command(put);
+    fields(put);
+    lists(put);
+    reader(put);
+    over_512(put);
+    refused(put);
+    samples
+}
+
+type Put<'a> = &'a mut dyn FnMut(String, Vec<u8>);
+
+fn every_command(put: Put) {
+    for command in COMMANDS {
+        let of = |what: &str| format!("{command:02X}-{what}");
+        let reply = reply(command, 8);
+        let whole = |stream: &[u8]| input(command, 8, stream);
+        put(of("clean"), whole(&reply));
+        put(of("no-stream"), whole(&[]));
+        put(of("last-byte-lacks"), whole(&reply[..reply.len() - 1]));
+        put(
+            of("after-question"),
+            whole(&[question(command), reply.clone()].concat()),
+        );
+        put(
+            of("bytes-behind"),
+            whole(&[&reply[..], &[0x00, START, 0x01]].concat()),
+        );
+        let mut damaged = reply.clone();
+        damaged[6] ^= 0x10;
+        put(
+            of("wrong-sum-then-right"),
+            whole(&[damaged, reply].concat()),
+        );
+    }
+}
+
+fn fields(put: Put) {
+    let one = |command, data| input(command, 0, &frame(command, data));
+    let samples = [
+        ("90-all-zero", one(0x90, [0; 8])),
+        ("90-all-ones", one(0x90, [0xFF; 8])),
+        (
+            "90-no-current",
+            one(0x90, [0, 0, 0, 0, 0x75, 0x30, 0x03, 0xE8]),
+        ),
+        ("91-all-ones", one(0x91, [0xFF; 8])),
+        ("92-byte-0", one(0x92, [0, 1, 0, 2, 0, 0, 0, 0])),
+        ("92-byte-39-and-40", one(0x92, [40, 1, 39, 2, 0, 0, 0, 0])),
+        (
+            "92-byte-167-and-168",
+            one(0x92, [167, 1, 168, 2, 0, 0, 0, 0]),
+        ),
+        ("92-byte-255", one(0x92, [255, 255, 255, 255, 0, 0, 0, 0])),
+        ("93-stationary", one(0x93, [0, 0, 1, 0, 0, 0, 0, 0])),
+        (
+            "93-discharging",
+            one(0x93, [2, 1, 1, 255, 0, 0, 0x27, 0x10]),
+        ),
+        (
+            "93-flags-of-2-and-255",
+            one(0x93, [1, 2, 255, 0, 0, 0, 0, 1]),
+        ),
+        ("93-capacity-16777217", one(0x93, [0, 0, 0, 0, 1, 0, 0, 1])),
+        ("93-capacity-16777219", one(0x93, [0, 0, 0, 0, 1, 0, 0, 3])),
+        (
+            "93-capacity-largest",
+            one(0x93, [0, 0, 0, 0, 255, 255, 255, 255]),
+        ),
+        ("94-all-zero", one(0x94, [0; 8])),
+        ("94-all-ones", one(0x94, [0xFF; 8])),
+        ("94-states-01", one(0x94, [0, 0, 0, 0, 0x01, 0, 0, 0])),
+        ("94-states-10", one(0x94, [0, 0, 0, 0, 0x10, 0, 0, 0])),
+        ("94-states-80", one(0x94, [0, 0, 0, 0, 0x80, 0, 0, 0])),
+        ("98-no-fault", one(0x98, [0; 8])),
+        ("98-all-faults", one(0x98, [0xFF; 8])),
+        ("98-byte-6-is-03", one(0x98, [0, 0, 3, 0, 0, 0, 0, 0])),
+        (
+            "98-only-bits-without-fault",
+            one(0x98, [0, 0, 0, 0xF0, 0, 0, 0xF0, 0xFF]),
+        ),
+    ];
+    for (name, input) in samples {
+        put(name.to_string(), input);
+    }
+}
+
+fn lists(put: Put) {
+    for (command, counts) in [
+        (0x95, &[0, 1, 2, 3, 4, 16, 255][..]),
+        (0x96, &[0, 1, 6, 7, 14, 254, 255]),
+    ] {
+        for count in counts {
+            let stream = input(command, *count, &reply(command, *count));
+            put(format!("{command:02X}-count-{count}"), stream);
+        }
+    }
+    for command in [0x95, 0x96] {
+        let stream = input(command, 0, &run(command, 1, 2));
+        put(
+            format!("{command:02X}-count-0-takes-nothing-of-2-frames"),
+            stream,
+        );
+    }
+    for count in [0, 1, 9, 47, 48, 49, 255] {
+        let flags = frame(0x97, [0x55, 0xFF, 0x00, 0x0F, 0xAA, 0x80, 0xFF, 0xFF]);
+        put(format!("97-count-{count}"), input(0x97, count, &flags));
+    }
+    let values = [1, 0, 0, 0xFF, 0xFF, 0x0C, 0xE5, 0];
+    put(
+        "95-0-and-65535".to_string(),
+        input(0x95, 3, &frame(0x95, values)),
+    );
+    let values = [1, 0, 39, 40, 41, 140, 254, 255];
+    put(
+        "96-byte-0-to-255".to_string(),
+        input(0x96, 7, &frame(0x96, values)),
+    );
+}
+
+fn reader(put: Put) {
+    let nine = |stream: &[Vec<u8>]| input(0x95, 9, &stream.concat());
+    let of = |first, last| run(0x95, first, last);
+    let mut swallowing = frame(0x91, [0; 8])[..7].to_vec();
+    swallowing.extend(of(1, 1));
+    let lacking = swallowing[FRAME - 1].wrapping_sub(reference::frames::sum(&swallowing[..FRAME]));
+    swallowing[1] = swallowing[1].wrapping_add(lacking);
+    let samples = [
+        ("95-frames-12123", nine(&[of(1, 2), of(1, 3)])),
+        (
+            "95-frames-1121123",
+            nine(&[of(1, 1), of(1, 2), of(1, 1), of(1, 3)]),
+        ),
+        ("95-frames-1323", nine(&[of(1, 1), of(3, 3), of(2, 3)])),
+        ("95-frames-23-lack-1", nine(&[of(2, 3)])),
+        ("95-frames-12-lack-3", nine(&[of(1, 2)])),
+        ("95-frames-1223", nine(&[of(1, 2), of(2, 3)])),
+        ("95-frame-0-and-4", nine(&[of(0, 1), of(4, 4), of(2, 3)])),
+        (
+            "95-frame-of-96-between",
+            nine(&[of(1, 1), run(0x96, 2, 2), of(2, 3)]),
+        ),
+        ("95-reply-twice", nine(&[of(1, 3), of(1, 3)])),
+        (
+            "95-right-frame-inside-thrown-one",
+            nine(&[swallowing.clone(), of(2, 3)]),
+        ),
+        ("95-and-again-from-1", nine(&[swallowing, of(1, 3)])),
+        ("95-starts-before", nine(&[vec![START; 20], of(1, 3)])),
+        ("95-1-byte-held", nine(&[of(1, 2), vec![START]])),
+        (
+            "95-12-bytes-held",
+            nine(&[of(1, 2), of(3, 3)[..12].to_vec()]),
+        ),
+        ("95-12-starts-held", nine(&[vec![START; 12]])),
+        ("95-13-starts", nine(&[vec![START; 13]])),
+    ];
+    for (name, input) in samples {
+        put(name.to_string(), input);
+    }
+    let reply = frame(0x90, DATA_OF[0]);
+    for address in [0x00, 0x40, 0xFF] {
+        let mut other = reply.clone();
+        (other[1], other[3]) = (address, address);
+        put_sum(&mut other);
+        let name = format!("90-bytes-1-and-3-are-{address:02X}");
+        put(name, input(0x90, 0, &other));
+    }
+}
+
+fn over_512(put: Put) {
+    let mut random = Random::new(SEED);
+    let reply = frame(0x90, DATA_OF[0]);
+    for count in [512, 513] {
+        let zeros = vec![0; count];
+        let of = |what: &str| format!("90-{count}-{what}");
+        put(
+            of("zeros-before"),
+            input(0x90, 0, &[&zeros[..], &reply].concat()),
+        );
+        put(of("zeros-alone"), input(0x90, 0, &zeros));
+        put(
+            of("zeros-behind"),
+            input(0x90, 0, &[&reply[..], &zeros].concat()),
+        );
+        let starts = vec![START; count];
+        put(
+            of("starts-before"),
+            input(0x90, 0, &[&starts[..], &reply].concat()),
+        );
+        let noise = noise(&mut random, count - 39 * FRAME);
+        let others = frame(0x91, DATA_OF[1]).repeat(39);
+        let stream = [noise, others, reply.clone()].concat();
+        put(of("by-39-frames-of-91"), input(0x90, 0, &stream));
+    }
+}
+
+fn refused(put: Put) {
+    let samples = [
+        ("no-input", vec![]),
+        ("one-byte-90", vec![0x90]),
+        ("one-byte-99", vec![0x99]),
+        ("8F-unknown", vec![0x8F, 0x00]),
+        ("99-unknown", vec![0x99, 0x00]),
+        (
+            "00-unknown-with-reply",
+            input(0x00, 1, &frame(0x00, [0; 8])),
+        ),
+        (
+            "D9-unknown-with-reply",
+            input(0xD9, 1, &frame(0xD9, [0; 8])),
+        ),
+        (
+            "93-mode-3",
+            input(0x93, 0, &frame(0x93, [3, 0, 0, 0, 0, 0, 0, 0])),
+        ),
+        ("93-mode-255", input(0x93, 0, &frame(0x93, [255; 8]))),
+        ("95-single-frame-is-0", input(0x95, 3, &numbered(0x95, 0))),
+        ("95-single-frame-is-2", input(0x95, 3, &numbered(0x95, 2))),
+        ("96-single-frame-is-2", input(0x96, 7, &numbered(0x96, 2))),
+    ];
+    for (name, input) in samples {
+        put(name.to_string(), input);
+    }
+}
+
+/// The files as they are to be: each input, and the Rust's text of it.
+fn files() -> BTreeMap<String, Vec<u8>> {
+    let mut files = BTreeMap::new();
+    for (name, input) in all() {
+        files.insert(format!("{name}.out"), reference::text(&input).into_bytes());
+        files.insert(format!("{name}.in"), input);
+    }
+    files
+}
+
+/// Makes the folder anew.
+pub fn write() -> io::Result<()> {
+    if fs::exists(PLACE)? {
+        fs::remove_dir_all(PLACE)?;
+    }
+    fs::create_dir_all(PLACE)?;
+    for (name, bytes) in files() {
+        fs::write(format!("{PLACE}/{name}"), bytes)?;
+    }
+    println!("{} samples in {PLACE}", all().len());
+    Ok(())
+}
+
+fn stored() -> io::Result<BTreeMap<String, Vec<u8>>> {
+    let entries = fs::read_dir(PLACE)?.map(|entry| {
+        let entry = entry?;
+        let name = entry.file_name().to_string_lossy().into_owned();
+        Ok((name, fs::read(entry.path())?))
+    });
+    entries.collect()
+}
+
+/// Whether the stored files are these, no more, no fewer, no others.
+pub fn are_stored() -> bool {
+    let same = stored().is_ok_and(|stored| stored == files());
+    println!(
+        "{} {PLACE} has what the Rust says, {} samples",
+        crate::part::verdict(same),
+        all().len()
+    );
+    same
+}

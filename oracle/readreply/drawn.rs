@@ -7,7 +7,7 @@ use reference::random::Random;
 use reference::reader::streams::{self, Make};
 
 /// Streams of one kind.
-const STREAMS: usize = 1_000;
+const STREAMS: usize = 900;
 
 pub const PARTS: &[Part] = &[
     kind("drawn: clean streams", |random| {

@@ -7,7 +7,7 @@ use std::time::Duration;
 
 const STAND_IN: &str = "target/oracle/stand_in";
 /// Cases of a part that a stand-in is tried on, at most.
-const TRIED: usize = 120;
+const TRIED: usize = 60;
 
 /// What the stand-in does wrong, and the part that must notice.
 const FAULTS: [(&str, &str); 12] = [
@@ -34,7 +34,7 @@ const FAULTS: [(&str, &str); 12] = [
 fn stand_in(fault: &'static str) -> Program {
     Program {
         path: PathBuf::from(STAND_IN),
-        fault,
+        fault: Some(fault),
         limit: Duration::from_secs(1),
     }
 }

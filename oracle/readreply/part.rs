@@ -18,7 +18,7 @@ const PRINTED: usize = 600;
 /// Pieces that are each waited for, at most.
 const WAITED: usize = 24;
 /// Cases of a small run, which tests the part itself.
-const SMALL: usize = 16;
+const SMALL: usize = 8;
 /// Small runs of one part with a spoiled answer.
 const SPOILED: usize = 3;
 
@@ -67,13 +67,27 @@ pub fn cases(random: &mut Random, inputs: Vec<Vec<u8>>) -> Vec<Case> {
         .collect()
 }
 
+/// Finely or in a few pieces. To wait for many takes long on a busy machine.
 fn through_pipe(random: &mut Random, input: &[u8]) -> Way {
     let pieces = cut(random, input).into_iter().map(<[u8]>::len);
-    let lengths: Vec<usize> = pieces.filter(|length| *length > 0).collect();
-    match lengths.len() <= WAITED && random.below(4) > 0 {
-        true => Way::Reads(lengths),
-        false => Way::Pieces(lengths),
+    let fine: Vec<usize> = pieces.filter(|length| *length > 0).collect();
+    match random.below(8) {
+        0 if fine.len() <= WAITED => Way::Reads(fine),
+        0..4 => Way::Pieces(fine),
+        _ => Way::Reads(few(random, input.len())),
     }
+}
+
+/// One to four pieces, cut anywhere.
+fn few(random: &mut Random, length: usize) -> Vec<usize> {
+    let mut rest = length;
+    let mut pieces = Vec::new();
+    for _ in 0..random.below(4) {
+        let piece = random.below(rest + 1);
+        pieces.push(piece);
+        rest -= piece;
+    }
+    pieces
 }
 
 impl Part {

@@ -36,8 +36,8 @@ static RUNNING: Mutex<Vec<(u32, Instant)>> = Mutex::new(Vec::new());
 #[derive(Clone)]
 pub struct Program {
     pub path: PathBuf,
-    /// Told to a stand-in.
-    pub fault: &'static str,
+    /// Told to a stand-in; an empty one is none.
+    pub fault: Option<&'static str>,
     /// A run that takes longer is killed.
     pub limit: Duration,
 }
@@ -94,8 +94,8 @@ impl Program {
     pub fn run(&self, input: &[u8], way: &Way, scratch: &Path) -> io::Result<Seen> {
         let mut command = Command::new(&self.path);
         command.stdout(Stdio::piped()).stderr(Stdio::piped());
-        if !self.fault.is_empty() {
-            command.env("FAULT", self.fault);
+        if let Some(fault) = self.fault {
+            command.env("FAULT", fault);
         }
         match way {
             Way::File => {

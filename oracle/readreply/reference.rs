@@ -140,14 +140,15 @@ impl Reference {
 
 impl Tally {
     fn line(&self, command: u8) -> String {
-        let Self {
-            taken,
-            held,
-            frames,
-            discarded,
-            cleared,
-        } = self;
-        format!("reply {command:02X} taken {taken} held {held} frames {frames} discarded {discarded} cleared {cleared}\n")
+        let counts = [
+            ("taken", self.taken as usize),
+            ("held", self.held),
+            ("frames", self.frames),
+            ("discarded", self.discarded as usize),
+            ("cleared", self.cleared as usize),
+        ];
+        let counts = counts.map(|(name, count)| format!("{name} {count}"));
+        format!("reply {command:02X} {}\n", counts.join(" "))
     }
 }
 

@@ -3,7 +3,7 @@
 
 use crate::inputs::{asked, input, noise, question, COMMANDS, EXAMPLE};
 use crate::part::{cases, Part};
-use reference::frames::{put_sum, FRAME, START};
+use reference::frames::{put_sum, sum, FRAME, START};
 use reference::random::Random;
 use std::collections::BTreeMap;
 use std::{fs, io};
@@ -43,7 +43,7 @@ fn run(command: u8, first: usize, last: usize) -> Vec<u8> {
         .collect()
 }
 
-/// A right reply, with drawn bytes where its command says nothing.
+/// A right reply.
 fn reply(command: u8, count: u8) -> Vec<u8> {
     match command {
         0x95 | 0x96 => run(command, 1, asked(command, count).wanted),
@@ -78,6 +78,7 @@ pub fn all() -> Samples {
     fields(put);
     lists(put);
     reader(put);
+    addresses(put);
     over_512(put);
     refused(put);
     samples
@@ -110,53 +111,44 @@ fn every_command(put: Put) {
     }
 }
 
+/// One-frame replies: a name, the command and the data.
+const FIELDS: [(&str, u8, [u8; 8]); 23] = [
+    ("90-all-zero", 0x90, [0; 8]),
+    ("90-all-ones", 0x90, [0xFF; 8]),
+    ("90-no-current", 0x90, [0, 0, 0, 0, 0x75, 0x30, 0x03, 0xE8]),
+    ("91-all-ones", 0x91, [0xFF; 8]),
+    ("92-byte-0", 0x92, [0, 1, 0, 2, 0, 0, 0, 0]),
+    ("92-byte-39-and-40", 0x92, [40, 1, 39, 2, 0, 0, 0, 0]),
+    ("92-byte-167-and-168", 0x92, [167, 1, 168, 2, 0, 0, 0, 0]),
+    ("92-byte-255", 0x92, [255, 255, 255, 255, 0, 0, 0, 0]),
+    ("93-stationary", 0x93, [0, 0, 1, 0, 0, 0, 0, 0]),
+    ("93-discharging", 0x93, [2, 1, 1, 255, 0, 0, 0x27, 0x10]),
+    ("93-flags-of-2-and-255", 0x93, [1, 2, 255, 0, 0, 0, 0, 1]),
+    ("93-capacity-16777217", 0x93, [0, 0, 0, 0, 1, 0, 0, 1]),
+    ("93-capacity-16777219", 0x93, [0, 0, 0, 0, 1, 0, 0, 3]),
+    (
+        "93-capacity-largest",
+        0x93,
+        [0, 0, 0, 0, 255, 255, 255, 255],
+    ),
+    ("94-all-zero", 0x94, [0; 8]),
+    ("94-all-ones", 0x94, [0xFF; 8]),
+    ("94-states-01", 0x94, [0, 0, 0, 0, 0x01, 0, 0, 0]),
+    ("94-states-10", 0x94, [0, 0, 0, 0, 0x10, 0, 0, 0]),
+    ("94-states-80", 0x94, [0, 0, 0, 0, 0x80, 0, 0, 0]),
+    ("98-no-fault", 0x98, [0; 8]),
+    ("98-all-faults", 0x98, [0xFF; 8]),
+    ("98-byte-6-is-03", 0x98, [0, 0, 3, 0, 0, 0, 0, 0]),
+    (
+        "98-only-bits-without-fault",
+        0x98,
+        [0, 0, 0, 0xF0, 0, 0, 0xF0, 0xFF],
+    ),
+];
+
 fn fields(put: Put) {
-    let one = |command, data| input(command, 0, &frame(command, data));
-    let samples = [
-        ("90-all-zero", one(0x90, [0; 8])),
-        ("90-all-ones", one(0x90, [0xFF; 8])),
-        (
-            "90-no-current",
-            one(0x90, [0, 0, 0, 0, 0x75, 0x30, 0x03, 0xE8]),
-        ),
-        ("91-all-ones", one(0x91, [0xFF; 8])),
-        ("92-byte-0", one(0x92, [0, 1, 0, 2, 0, 0, 0, 0])),
-        ("92-byte-39-and-40", one(0x92, [40, 1, 39, 2, 0, 0, 0, 0])),
-        (
-            "92-byte-167-and-168",
-            one(0x92, [167, 1, 168, 2, 0, 0, 0, 0]),
-        ),
-        ("92-byte-255", one(0x92, [255, 255, 255, 255, 0, 0, 0, 0])),
-        ("93-stationary", one(0x93, [0, 0, 1, 0, 0, 0, 0, 0])),
-        (
-            "93-discharging",
-            one(0x93, [2, 1, 1, 255, 0, 0, 0x27, 0x10]),
-        ),
-        (
-            "93-flags-of-2-and-255",
-            one(0x93, [1, 2, 255, 0, 0, 0, 0, 1]),
-        ),
-        ("93-capacity-16777217", one(0x93, [0, 0, 0, 0, 1, 0, 0, 1])),
-        ("93-capacity-16777219", one(0x93, [0, 0, 0, 0, 1, 0, 0, 3])),
-        (
-            "93-capacity-largest",
-            one(0x93, [0, 0, 0, 0, 255, 255, 255, 255]),
-        ),
-        ("94-all-zero", one(0x94, [0; 8])),
-        ("94-all-ones", one(0x94, [0xFF; 8])),
-        ("94-states-01", one(0x94, [0, 0, 0, 0, 0x01, 0, 0, 0])),
-        ("94-states-10", one(0x94, [0, 0, 0, 0, 0x10, 0, 0, 0])),
-        ("94-states-80", one(0x94, [0, 0, 0, 0, 0x80, 0, 0, 0])),
-        ("98-no-fault", one(0x98, [0; 8])),
-        ("98-all-faults", one(0x98, [0xFF; 8])),
-        ("98-byte-6-is-03", one(0x98, [0, 0, 3, 0, 0, 0, 0, 0])),
-        (
-            "98-only-bits-without-fault",
-            one(0x98, [0, 0, 0, 0xF0, 0, 0, 0xF0, 0xFF]),
-        ),
-    ];
-    for (name, input) in samples {
-        put(name.to_string(), input);
+    for (name, command, data) in FIELDS {
+        put(name.to_string(), input(command, 0, &frame(command, data)));
     }
 }
 
@@ -193,52 +185,61 @@ fn lists(put: Put) {
     );
 }
 
+/// Frames of a 95 reply that wants three: a name, and the first and last number of each run.
+const RUNS: [(&str, &[(usize, usize)]); 8] = [
+    ("95-frames-12123", &[(1, 2), (1, 3)]),
+    ("95-frames-1121123", &[(1, 1), (1, 2), (1, 1), (1, 3)]),
+    ("95-frames-1323", &[(1, 1), (3, 3), (2, 3)]),
+    ("95-frames-23-lack-1", &[(2, 3)]),
+    ("95-frames-12-lack-3", &[(1, 2)]),
+    ("95-frames-1223", &[(1, 2), (2, 3)]),
+    ("95-frames-01423", &[(0, 1), (4, 4), (2, 3)]),
+    ("95-reply-twice", &[(1, 3), (1, 3)]),
+];
+
+/// A right frame of 91 that is thrown, and the right frame 1 that begins inside it.
+fn swallowing() -> Vec<u8> {
+    let mut bytes = frame(0x91, [0; 8])[..7].to_vec();
+    bytes.extend(numbered(0x95, 1));
+    let lacking = bytes[FRAME - 1].wrapping_sub(sum(&bytes[..FRAME]));
+    bytes[1] = bytes[1].wrapping_add(lacking);
+    bytes
+}
+
 fn reader(put: Put) {
-    let nine = |stream: &[Vec<u8>]| input(0x95, 9, &stream.concat());
     let of = |first, last| run(0x95, first, last);
-    let mut swallowing = frame(0x91, [0; 8])[..7].to_vec();
-    swallowing.extend(of(1, 1));
-    let lacking = swallowing[FRAME - 1].wrapping_sub(reference::frames::sum(&swallowing[..FRAME]));
-    swallowing[1] = swallowing[1].wrapping_add(lacking);
-    let samples = [
-        ("95-frames-12123", nine(&[of(1, 2), of(1, 3)])),
-        (
-            "95-frames-1121123",
-            nine(&[of(1, 1), of(1, 2), of(1, 1), of(1, 3)]),
-        ),
-        ("95-frames-1323", nine(&[of(1, 1), of(3, 3), of(2, 3)])),
-        ("95-frames-23-lack-1", nine(&[of(2, 3)])),
-        ("95-frames-12-lack-3", nine(&[of(1, 2)])),
-        ("95-frames-1223", nine(&[of(1, 2), of(2, 3)])),
-        ("95-frame-0-and-4", nine(&[of(0, 1), of(4, 4), of(2, 3)])),
-        (
-            "95-frame-of-96-between",
-            nine(&[of(1, 1), run(0x96, 2, 2), of(2, 3)]),
-        ),
-        ("95-reply-twice", nine(&[of(1, 3), of(1, 3)])),
-        (
-            "95-right-frame-inside-thrown-one",
-            nine(&[swallowing.clone(), of(2, 3)]),
-        ),
-        ("95-and-again-from-1", nine(&[swallowing, of(1, 3)])),
-        ("95-starts-before", nine(&[vec![START; 20], of(1, 3)])),
-        ("95-1-byte-held", nine(&[of(1, 2), vec![START]])),
-        (
-            "95-12-bytes-held",
-            nine(&[of(1, 2), of(3, 3)[..12].to_vec()]),
-        ),
-        ("95-12-starts-held", nine(&[vec![START; 12]])),
-        ("95-13-starts", nine(&[vec![START; 13]])),
-    ];
-    for (name, input) in samples {
-        put(name.to_string(), input);
+    for (name, runs) in RUNS {
+        let stream: Vec<u8> = runs.iter().flat_map(|(a, b)| of(*a, *b)).collect();
+        put(name.to_string(), input(0x95, 9, &stream));
     }
-    let reply = frame(0x90, DATA_OF[0]);
-    for address in [0x00, 0x40, 0xFF] {
-        let mut other = reply.clone();
-        (other[1], other[3]) = (address, address);
+    let samples = [
+        (
+            "frame-of-96-between",
+            vec![of(1, 1), run(0x96, 2, 2), of(2, 3)],
+        ),
+        (
+            "right-frame-inside-thrown-one",
+            vec![swallowing(), of(2, 3)],
+        ),
+        ("and-again-from-1", vec![swallowing(), of(1, 3)]),
+        ("starts-before", vec![vec![START; 20], of(1, 3)]),
+        ("1-byte-held", vec![of(1, 2), vec![START]]),
+        ("12-bytes-held", vec![of(1, 2), of(3, 3)[..12].to_vec()]),
+        ("12-starts-held", vec![vec![START; 12]]),
+        ("13-starts", vec![vec![START; 13]]),
+    ];
+    for (name, stream) in samples {
+        put(format!("95-{name}"), input(0x95, 9, &stream.concat()));
+    }
+}
+
+/// The bytes that nobody looks at.
+fn addresses(put: Put) {
+    for byte in [0x00, 0x40, 0xFF] {
+        let mut other = frame(0x90, DATA_OF[0]);
+        (other[1], other[3]) = (byte, byte);
         put_sum(&mut other);
-        let name = format!("90-bytes-1-and-3-are-{address:02X}");
+        let name = format!("90-bytes-1-and-3-are-{byte:02X}");
         put(name, input(0x90, 0, &other));
     }
 }

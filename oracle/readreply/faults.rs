@@ -9,6 +9,9 @@ const STAND_IN: &str = "target/oracle/stand_in";
 /// Cases of a part that a stand-in is tried on, at most.
 const TRIED: usize = 60;
 
+/// The fault whose every case takes as long as it may.
+const HANGS: &str = "hangs";
+
 /// What the stand-in does wrong, and the part that must notice.
 const FAULTS: [(&str, &str); 12] = [
     (
@@ -28,14 +31,15 @@ const FAULTS: [(&str, &str); 12] = [
     ("a value twice", "every command with every count"),
     ("exit status 1", "the stored samples"),
     ("a word to standard error", "the stored samples"),
-    ("hangs", "document 01's example, cut in two at every place"),
+    (HANGS, "document 01's example, cut in two at every place"),
 ];
 
 fn stand_in(fault: &'static str) -> Program {
+    let limit = if fault == HANGS { 1 } else { 20 };
     Program {
         path: PathBuf::from(STAND_IN),
         fault: Some(fault),
-        limit: Duration::from_secs(1),
+        limit: Duration::from_secs(limit),
     }
 }
 
@@ -43,7 +47,7 @@ fn stand_in(fault: &'static str) -> Program {
 pub fn noticed(parts: &[Part], seed: u64) -> Vec<bool> {
     let noticed = FAULTS.iter().map(|(fault, by)| {
         let part = parts.iter().find(|part| part.what == *by);
-        let few = if *fault == "hangs" { 2 } else { TRIED };
+        let few = if *fault == HANGS { 2 } else { TRIED };
         let noticed = part.is_some_and(|part| part.wrong(&stand_in(fault), seed, few) > 0);
         println!("{} notices a stand-in's fault: {fault}", verdict(noticed));
         noticed

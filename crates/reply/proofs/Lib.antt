@@ -1,0 +1,4 @@
+pub mod Steps
+pub mod Cutting
+pub mod Examples
+pub mod Decided

@@ -1,4 +1,5 @@
 pub mod Parts
+pub mod Noise
 pub mod Judge
 pub mod Turns
 pub mod Ways

@@ -1,14 +1,18 @@
 -- What a scan over a slice, and a push's way over its chunk, come to: the statements of private functions. Definitions only.
-use Prim.Native.Nat.{ℕ, _+_, _*_, _≤_}
+use Prim.Native.Nat.{ℕ, _+_, _*_, _≤_, _<_}
 use mathlib.Core.Path.{_≡_}
 use mathlib.Core.List.{List}
-use lib.ListN.{length, drop}
+use lib.ListN.{length, drop, getD}
 use Rattle.rules.specs.Rules.{Config}
 use Rattle.rules.specs.Ledger.{Outcome, discards, clears}
 use Rattle.rules.specs.Reader.{wrap, heldOf, took}
 use Rattle.reader.specs.View.{chop, front}
 use Rattle.reader.specs.declared.scan.Progress.{Progress}
 use Rattle.reader.specs.declared.moves.Moved.{Moved}
+
+-- no byte of s from a on and before b is A5
+abbrev pub Quiet : List ℕ → ℕ → ℕ → Type 0
+Quiet s a b = (k : ℕ) → k < b → a ≤ k → getD s k 0 ≡ 0xA5 → ⊥
 
 -- a scan of s came to r and left the frames f: its outcome is o, with x frames cleared before
 pub record Ran (o : Outcome) (x wanted : ℕ) (s f : List ℕ) (r : Progress) : Type 0 where

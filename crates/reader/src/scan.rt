@@ -1,12 +1,13 @@
 // The rules on the bytes of a slice, one turn after the other.
 ghost use mathlib.Core.Path.{_≡_};
-ghost use Prim.Native.Nat.{ℕ, _+_, _%_, _<_, _≤_};
-ghost use lib.ListN.{length, drop, getD};
+ghost use Prim.Native.Nat.{_+_, _%_, _<_, _≤_};
+ghost use mathlib.Core.Bool.{true};
+ghost use lib.ListN.{length, drop};
 ghost use lib.Seq.{paste};
 ghost use Rattle.rules.specs.Rules.{judge, lost as lostOf, restarts, if_then_else_};
 ghost use Rattle.rules.specs.Ledger.{run};
 ghost use Rattle.reader.specs.View.{config, chop};
-ghost use Rattle.reader.specs.Steps.{Ran};
+ghost use Rattle.reader.specs.Steps.{Ran, Quiet};
 
 // Where a scan has come to: the place in the slice, the bytes discarded, the frames collected, and the count of frames cleared.
 pub struct Progress {
@@ -40,12 +41,43 @@ pub(crate) fn copy(to: &mut [u8], start: usize, from: &[u8], at: usize, n: usize
     }
 }
 
+// Whether none of the 32 bytes from `from` on is A5. It looks at all of them, so that the compiler can look at many at once.
+fn is_quiet(s: &[u8], from: usize) -> bool
+    requires { ⌜ from + 32 ≤ length (now s) ⌝ }
+    ensures { λ r. ⌜ (r ≡ true → Quiet (now (s .entry)) from (from + 32)) ⌝ }
+{
+    let mut starts: u8 = 0;
+    let mut j: usize = 0;
+    while j < 32 {
+        if s[from + j] == 0xA5 {
+            starts = 1;
+        }
+        j += 1;
+    }
+    starts == 0
+}
+
+// Past all quiet bytes that come by 32.
+fn skip_quiet(s: &[u8], from: usize) -> usize
+    requires { ⌜ from ≤ length (now s) ⌝ }
+    ensures { λ r. ⌜ (from ≤ r) × (r ≤ length (now (s .entry))) × Quiet (now (s .entry)) from r ⌝ }
+{
+    let mut i = from;
+    while 32 <= s.len() - i {
+        if !is_quiet(s, i) {
+            return i;
+        }
+        i += 32;
+    }
+    i
+}
+
 // The first A5 of s from `from` on, or the length.
 fn start_from(s: &[u8], from: usize) -> usize
     requires { ⌜ from ≤ length (now s) ⌝ }
-    ensures { λ r. ⌜ (from ≤ r) × (r ≤ length (now (s .entry))) × ((k : ℕ) → k < r → from ≤ k → getD (now (s .entry)) k 0 ≡ 0xA5 → ⊥) ⌝ }
+    ensures { λ r. ⌜ (from ≤ r) × (r ≤ length (now (s .entry))) × Quiet (now (s .entry)) from r ⌝ }
 {
-    let mut i = from;
+    let mut i = skip_quiet(s, from);
     while i < s.len() {
         if s[i] == 0xA5 {
             return i;

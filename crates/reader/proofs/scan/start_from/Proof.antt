@@ -1,4 +1,5 @@
-use Prim.Native.Nat.{ℕ, _≤_, _<_, _-_}
+use Rattle.reader.specs.Steps.{Quiet}
+use Prim.Native.Nat.{ℕ, _≤_, _-_}
 use native.Mathlib.Omega.{arith}
 use borrow.Author.Needs.{needs}
 use lib.ListN.{length, getD}
@@ -8,13 +9,16 @@ use Rattle.reader.proofs.scan.start_from.Statement.{statement}
 use Rattle.reader.proofs.scan.start_from.Tie as tie
 
 abbrev Inv-loop : tie.InvT-loop
-Inv-loop s from i₀ i = (from ≤ i) × (i ≤ length s) × ((k : ℕ) → k < i → from ≤ k → getD s k 0 ≡ 0xA5 → ⊥)
+Inv-loop s from i₀ i = (from ≤ i) × (i ≤ length s) × Quiet s from i
 
 abbrev μ-loop : tie.MeasureT-loop
 μ-loop s from i₀ i = length s - i
 
+skip-quiet-requires : tie.Need-skip-quiet-requires Inv-loop μ-loop
+skip-quiet-requires c κs = search needs
+
 loop-holds : tie.Need-loop-holds Inv-loop μ-loop
-loop-holds c = (omega arith, omega arith, (λ k h j z. omega arith))
+loop-holds c = c .skip-quiet .ensures
 
 shared-slice-read-if1 : tie.Need-shared-slice-read-if1 Inv-loop μ-loop
 shared-slice-read-if1 c = search needs
@@ -32,7 +36,7 @@ loop-again : tie.Need-loop-again Inv-loop μ-loop
 loop-again c = (
   omega arith,
   omega arith,
-  below-more (λ (k : ℕ). c .before .before .before .before .args .from ≤ k → getD (c .before .before .before .before .args .s .now) k 0 ≡ 165 → ⊥) _
+  below-more (λ (k : ℕ). c .before .before .before .before .before .before .args .from ≤ k → getD (c .before .before .before .before .before .before .args .s .now) k 0 ≡ 165 → ⊥) _
       (c .before .before .before .loop .inv .2) (λ j. c .if1 .left),
 )
 
@@ -45,6 +49,7 @@ start-from-spec =
     (tie.spec
     Inv-loop
     μ-loop
+    skip-quiet-requires
     loop-holds
     shared-slice-read-if1
     returns

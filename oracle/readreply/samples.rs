@@ -64,6 +64,27 @@ const DATA_OF: [[u8; 8]; 9] = [
     [0x04, 0x00, 0x03, 0x00, 0x00, 0x20, 0x00, 0x00],
 ];
 
+/// What an adapter brought of a pack of eight cells: our question come back, three bytes of noise, a reply that
+/// breaks off in its third frame and begins again.
+fn capture() -> Vec<u8> {
+    let cells = |number: u8, millivolts: [u16; 3]| {
+        let mut data = [number, 0, 0, 0, 0, 0, 0, 0];
+        for (place, value) in data[1..7].chunks_exact_mut(2).zip(millivolts) {
+            place.copy_from_slice(&value.to_be_bytes());
+        }
+        frame(0x95, data)
+    };
+    let reply = [
+        cells(1, [3301, 3298, 3302]),
+        cells(2, [3297, 3300, 3303]),
+        cells(3, [3299, 3296, 0]),
+    ]
+    .concat();
+    let broken_off = &reply[..2 * FRAME + 5];
+    let stream = [&question(0x95)[..], &[0x00, 0xFF, 0x3C], broken_off, &reply].concat();
+    input(0x95, 8, &stream)
+}
+
 /// All samples by name.
 pub fn all() -> Samples {
     let mut samples = Samples::new();
@@ -74,6 +95,7 @@ pub fn all() -> Samples {
         );
     };
     put("90-example".to_string(), EXAMPLE.to_vec());
+    put("95-capture".to_string(), capture());
     every_command(put);
     fields(put);
     lists(put);

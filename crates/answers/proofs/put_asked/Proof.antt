@@ -5,19 +5,19 @@ use Rattle.answers.proofs.put_asked.Statement.{statement}
 use Rattle.answers.proofs.put_asked.Tie as tie
 
 byte-at-requires : tie.Need-byte-at-requires
-byte-at-requires c κs = search needs
+byte-at-requires c κs = tt
 
 byte-at-requires-2 : tie.Need-byte-at-requires-2
-byte-at-requires-2 c κs = search needs
+byte-at-requires-2 c κs = tt
 
 four-at-requires : tie.Need-four-at-requires
 four-at-requires c κs = search needs
 
 float-of-requires : tie.Need-float-of-requires
-float-of-requires c κs = search needs
+float-of-requires c κs = tt
 
 put-request-requires : tie.Need-put-request-requires
-put-request-requires c κs = search needs
+put-request-requires c κs = tt
 
 same-length : tie.Need-same-length
 same-length c = search needs

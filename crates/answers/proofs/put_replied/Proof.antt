@@ -5,16 +5,16 @@ use Rattle.answers.proofs.put_replied.Statement.{statement}
 use Rattle.answers.proofs.put_replied.Tie as tie
 
 byte-at-requires : tie.Need-byte-at-requires
-byte-at-requires c κs = search needs
+byte-at-requires c κs = tt
 
 byte-at-requires-2 : tie.Need-byte-at-requires-2
-byte-at-requires-2 c κs = search needs
+byte-at-requires-2 c κs = tt
 
 behind-requires : tie.Need-behind-requires
-behind-requires c κs = search needs
+behind-requires c κs = tt
 
 put-decoded-requires : tie.Need-put-decoded-requires
-put-decoded-requires c κs = search needs
+put-decoded-requires c κs = tt
 
 same-length : tie.Need-same-length
 same-length c = search needs

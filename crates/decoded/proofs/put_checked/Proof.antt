@@ -7,13 +7,13 @@ use Rattle.decoded.proofs.put_checked.Statement.{statement}
 use Rattle.decoded.proofs.put_checked.Tie as tie
 
 frame-check-requires : tie.Need-frame-check-requires
-frame-check-requires c κs = search needs
+frame-check-requires c κs = tt
 
 number-requires : tie.Need-number-requires
-number-requires c κs = search needs
+number-requires c κs = tt
 
 put-hex2-requires : tie.Need-put-hex2-requires
-put-hex2-requires c κs = search needs
+put-hex2-requires c κs = tt
 
 same-length : tie.Need-same-length
 same-length c = search needs

@@ -7,34 +7,34 @@ use Rattle.decoded.proofs.put_decoded.Statement.{statement}
 use Rattle.decoded.proofs.put_decoded.Tie as tie
 
 put-soc-requires : tie.Need-put-soc-requires
-put-soc-requires c κs = search needs
+put-soc-requires c κs = tt
 
 put-cell-voltage-range-requires : tie.Need-put-cell-voltage-range-requires
-put-cell-voltage-range-requires c κs = search needs
+put-cell-voltage-range-requires c κs = tt
 
 put-temperature-range-requires : tie.Need-put-temperature-range-requires
-put-temperature-range-requires c κs = search needs
+put-temperature-range-requires c κs = tt
 
 put-mosfet-status-requires : tie.Need-put-mosfet-status-requires
-put-mosfet-status-requires c κs = search needs
+put-mosfet-status-requires c κs = tt
 
 put-status-requires : tie.Need-put-status-requires
-put-status-requires c κs = search needs
+put-status-requires c κs = tt
 
 put-voltages-requires : tie.Need-put-voltages-requires
-put-voltages-requires c κs = search needs
+put-voltages-requires c κs = tt
 
 put-temperatures-requires : tie.Need-put-temperatures-requires
-put-temperatures-requires c κs = search needs
+put-temperatures-requires c κs = tt
 
 put-balance-requires : tie.Need-put-balance-requires
-put-balance-requires c κs = search needs
+put-balance-requires c κs = tt
 
 put-faults-requires : tie.Need-put-faults-requires
-put-faults-requires c κs = search needs
+put-faults-requires c κs = tt
 
 put-checked-requires : tie.Need-put-checked-requires
-put-checked-requires c κs = search needs
+put-checked-requires c κs = tt
 
 same-length : tie.Need-same-length
 same-length c = search needs

@@ -7,10 +7,10 @@ use Rattle.decoded.proofs.put_degrees.Statement.{statement}
 use Rattle.decoded.proofs.put_degrees.Tie as tie
 
 bits-of-requires : tie.Need-bits-of-requires
-bits-of-requires c κs = search needs
+bits-of-requires c κs = tt
 
 put-four-requires : tie.Need-put-four-requires
-put-four-requires c κs = search needs
+put-four-requires c κs = tt
 
 same-length : tie.Need-same-length
 same-length c = search needs

@@ -6,7 +6,7 @@ use Rattle.decoded.proofs.put_flag.Statement.{statement}
 use Rattle.decoded.proofs.put_flag.Tie as tie
 
 put-hex2-requires : tie.Need-put-hex2-requires
-put-hex2-requires c κs = search needs
+put-hex2-requires c κs = tt
 
 same-length : tie.Need-same-length
 same-length c = search needs
@@ -16,7 +16,7 @@ unfolding flagHex
 returns c = put-as (ap flagHex (sym (c .before .before .before .before .if1 .taken))) (c .before .before .put-hex2 .ensures)
 
 put-hex2-requires-2 : tie.Need-put-hex2-requires-2
-put-hex2-requires-2 c κs = search needs
+put-hex2-requires-2 c κs = tt
 
 same-length-2 : tie.Need-same-length-2
 same-length-2 c = search needs

@@ -9,7 +9,7 @@ use Rattle.decoded.proofs.put_float.Statement.{statement}
 use Rattle.decoded.proofs.put_float.Tie as tie
 
 put-four-requires : tie.Need-put-four-requires
-put-four-requires c κs = search needs
+put-four-requires c κs = tt
 
 same-length : tie.Need-same-length
 same-length c = search needs
@@ -24,7 +24,7 @@ float-to-bits-bits : tie.Need-float-to-bits-bits
 float-to-bits-bits c = has-bits (c .before .before .args .x) (c .if1 .left)
 
 put-four-requires-2 : tie.Need-put-four-requires-2
-put-four-requires-2 c κs = search needs
+put-four-requires-2 c κs = tt
 
 same-length-2 : tie.Need-same-length-2
 same-length-2 c = search needs

@@ -8,13 +8,13 @@ cast-put-two : tie.Need-cast-put-two
 cast-put-two c = search needs
 
 put-two-requires : tie.Need-put-two-requires
-put-two-requires c κs = search needs
+put-two-requires c κs = tt
 
 cast-put-two-2 : tie.Need-cast-put-two-2
 cast-put-two-2 c = search needs
 
 put-two-requires-2 : tie.Need-put-two-requires-2
-put-two-requires-2 c κs = search needs
+put-two-requires-2 c κs = tt
 
 same-length : tie.Need-same-length
 same-length c = search needs

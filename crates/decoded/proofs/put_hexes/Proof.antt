@@ -26,7 +26,7 @@ shared-slice-read-put-hex2 : tie.Need-shared-slice-read-put-hex2 Inv-loop μ-loo
 shared-slice-read-put-hex2 c = search needs
 
 put-hex2-requires : tie.Need-put-hex2-requires Inv-loop μ-loop
-put-hex2-requires c κs = search needs
+put-hex2-requires c κs = tt
 
 add-i : tie.Need-add-i Inv-loop μ-loop
 add-i c = search needs

@@ -3,10 +3,10 @@ use Rattle.decoded.proofs.put_refusal.Statement.{statement}
 use Rattle.decoded.proofs.put_refusal.Tie as tie
 
 number-requires : tie.Need-number-requires
-number-requires c κs = search needs
+number-requires c κs = tt
 
 put-hex2-requires : tie.Need-put-hex2-requires
-put-hex2-requires c κs = search needs
+put-hex2-requires c κs = tt
 
 same-length : tie.Need-same-length
 same-length c = search needs

@@ -5,16 +5,16 @@ use Rattle.decoded.proofs.put_two.Statement.{statement}
 use Rattle.decoded.proofs.put_two.Tie as tie
 
 high-byte-requires : tie.Need-high-byte-requires
-high-byte-requires c κs = search needs
+high-byte-requires c κs = tt
 
 put-hex2-requires : tie.Need-put-hex2-requires
-put-hex2-requires c κs = search needs
+put-hex2-requires c κs = tt
 
 low-byte-requires : tie.Need-low-byte-requires
-low-byte-requires c κs = search needs
+low-byte-requires c κs = tt
 
 put-hex2-requires-2 : tie.Need-put-hex2-requires-2
-put-hex2-requires-2 c κs = search needs
+put-hex2-requires-2 c κs = tt
 
 same-length : tie.Need-same-length
 same-length c = search needs

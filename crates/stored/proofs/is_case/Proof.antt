@@ -14,7 +14,7 @@ slice-aggregate-put-case : tie.Need-slice-aggregate-put-case
 slice-aggregate-put-case c = search needs
 
 put-case-requires : tie.Need-put-case-requires
-put-case-requires c κs = search needs
+put-case-requires c κs = tt
 
 returns : tie.Need-returns
 returns c = not-long _ _ (omega (arith, text-past (c .before .before .put-case .ensures) 8192 (c .if1 .taken)))
@@ -28,7 +28,7 @@ slice-aggregate-same c =
     sym (length-take-le _ _ h)
 
 same-requires : tie.Need-same-requires
-same-requires c κs = search needs
+same-requires c κs = tt
 
 returns-2 : tie.Need-returns-2
 returns-2 c =

@@ -53,7 +53,7 @@ shared-slice-read-pair-value-2 : tie.Need-shared-slice-read-pair-value-2 Inv-loo
 shared-slice-read-pair-value-2 c = search needs
 
 pair-value-requires : tie.Need-pair-value-requires Inv-loop μ-loop
-pair-value-requires c κs = search needs
+pair-value-requires c κs = tt
 
 slice-write-question : tie.Need-slice-write-question Inv-loop μ-loop
 slice-write-question c = search needs

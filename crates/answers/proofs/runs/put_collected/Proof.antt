@@ -12,22 +12,22 @@ slice-aggregate-copy-out : tie.Need-slice-aggregate-copy-out
 slice-aggregate-copy-out c = search needs
 
 copy-out-requires : tie.Need-copy-out-requires
-copy-out-requires c κs = search needs
+copy-out-requires c κs = tt
 
 enum-known-refusal : tie.Need-enum-known-refusal
 enum-known-refusal c = search needs
 
 number-requires : tie.Need-number-requires
-number-requires c κs = search needs
+number-requires c κs = tt
 
 put-hex2-requires : tie.Need-put-hex2-requires
-put-hex2-requires c κs = search needs
+put-hex2-requires c κs = tt
 
 enum-known-n : tie.Need-enum-known-n
 enum-known-n c = search needs
 
 put-hex2-requires-2 : tie.Need-put-hex2-requires-2
-put-hex2-requires-2 c κs = search needs
+put-hex2-requires-2 c κs = tt
 
 array-share-prefix-bytes : tie.Need-array-share-prefix-bytes
 array-share-prefix-bytes c = stored-few (c .before .before .before .before .before .before .before .before .before .copy-out .ensures) (c .before .before .before .before .before .before .n .given .1)
@@ -37,7 +37,7 @@ slice-aggregate-put-hexes c =
     sym (length-take-le _ _ (stored-few (c .before .before .before .before .before .before .before .before .before .before .copy-out .ensures) (c .before .before .before .before .before .before .before .n .given .1)))
 
 put-hexes-requires : tie.Need-put-hexes-requires
-put-hexes-requires c κs = search needs
+put-hexes-requires c κs = tt
 
 same-length : tie.Need-same-length
 same-length c = search needs

@@ -4,10 +4,10 @@ use Rattle.answers.proofs.runs.put_ran.Statement.{statement}
 use Rattle.answers.proofs.runs.put_ran.Tie as tie
 
 put-ran-front-requires : tie.Need-put-ran-front-requires
-put-ran-front-requires c κs = search needs
+put-ran-front-requires c κs = tt
 
 put-collected-requires : tie.Need-put-collected-requires
-put-collected-requires c κs = search needs
+put-collected-requires c κs = tt
 
 same-length : tie.Need-same-length
 same-length c = search needs

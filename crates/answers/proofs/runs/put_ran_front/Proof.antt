@@ -7,28 +7,28 @@ use Rattle.answers.proofs.runs.put_ran_front.Statement.{statement}
 use Rattle.answers.proofs.runs.put_ran_front.Tie as tie
 
 is-complete-requires : tie.Need-is-complete-requires
-is-complete-requires c κs = search needs
+is-complete-requires c κs = tt
 
 missing-requires : tie.Need-missing-requires
-missing-requires c κs = search needs
+missing-requires c κs = tt
 
 put-hex2-requires : tie.Need-put-hex2-requires
-put-hex2-requires c κs = search needs
+put-hex2-requires c κs = tt
 
 put-hex2-requires-2 : tie.Need-put-hex2-requires-2
-put-hex2-requires-2 c κs = search needs
+put-hex2-requires-2 c κs = tt
 
 flag-byte-requires : tie.Need-flag-byte-requires
-flag-byte-requires c κs = search needs
+flag-byte-requires c κs = tt
 
 put-hex2-requires-3 : tie.Need-put-hex2-requires-3
-put-hex2-requires-3 c κs = search needs
+put-hex2-requires-3 c κs = tt
 
 cast-put-hex2 : tie.Need-cast-put-hex2
 cast-put-hex2 c = omega (arith, missing-fits _ (c .before .before .before .before .before .before .before .before .before .before .before .before .before .before .before .missing .ensures))
 
 put-hex2-requires-4 : tie.Need-put-hex2-requires-4
-put-hex2-requires-4 c κs = search needs
+put-hex2-requires-4 c κs = tt
 
 same-length : tie.Need-same-length
 same-length c = search needs

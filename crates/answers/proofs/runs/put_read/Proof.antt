@@ -5,7 +5,7 @@ use Rattle.answers.proofs.runs.put_read.Statement.{statement}
 use Rattle.answers.proofs.runs.put_read.Tie as tie
 
 byte-at-requires : tie.Need-byte-at-requires
-byte-at-requires c κs = search needs
+byte-at-requires c κs = tt
 
 two-at-requires : tie.Need-two-at-requires
 two-at-requires c κs = search needs
@@ -14,13 +14,13 @@ two-at-requires-2 : tie.Need-two-at-requires-2
 two-at-requires-2 c κs = search needs
 
 behind-requires : tie.Need-behind-requires
-behind-requires c κs = search needs
+behind-requires c κs = tt
 
 read-stream-requires : tie.Need-read-stream-requires
-read-stream-requires c κs = search needs
+read-stream-requires c κs = tt
 
 put-ran-requires : tie.Need-put-ran-requires
-put-ran-requires c κs = search needs
+put-ran-requires c κs = tt
 
 same-length : tie.Need-same-length
 same-length c = search needs

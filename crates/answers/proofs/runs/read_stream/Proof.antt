@@ -9,10 +9,10 @@ slice-aggregate-new : tie.Need-slice-aggregate-new
 slice-aggregate-new c = search needs
 
 new-requires : tie.Need-new-requires
-new-requires c κs = search needs
+new-requires c κs = tt
 
 daly-push-in-chunks-requires : tie.Need-daly-push-in-chunks-requires
-daly-push-in-chunks-requires c κs = search needs
+daly-push-in-chunks-requires c κs = tt
 
 returns : tie.Need-returns
 returns c =

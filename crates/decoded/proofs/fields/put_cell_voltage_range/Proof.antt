@@ -6,19 +6,19 @@ use Rattle.decoded.proofs.fields.put_cell_voltage_range.Statement.{stat
 use Rattle.decoded.proofs.fields.put_cell_voltage_range.Tie as tie
 
 decode-requires : tie.Need-decode-requires
-decode-requires c κs = search needs
+decode-requires c κs = tt
 
 enum-known-refusal : tie.Need-enum-known-refusal
 enum-known-refusal c = search needs
 
 put-refusal-requires : tie.Need-put-refusal-requires
-put-refusal-requires c κs = search needs
+put-refusal-requires c κs = tt
 
 enum-known-range : tie.Need-enum-known-range
 enum-known-range c = search needs
 
 put-cell-voltage-range-fields-requires : tie.Need-put-cell-voltage-range-fields-requires
-put-cell-voltage-range-fields-requires c κs = search needs
+put-cell-voltage-range-fields-requires c κs = tt
 
 same-length : tie.Need-same-length
 same-length c = search needs

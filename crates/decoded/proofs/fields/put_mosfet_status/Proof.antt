@@ -6,19 +6,19 @@ use Rattle.decoded.proofs.fields.put_mosfet_status.Statement.{statement
 use Rattle.decoded.proofs.fields.put_mosfet_status.Tie as tie
 
 decode-requires : tie.Need-decode-requires
-decode-requires c κs = search needs
+decode-requires c κs = tt
 
 enum-known-refusal : tie.Need-enum-known-refusal
 enum-known-refusal c = search needs
 
 put-refusal-requires : tie.Need-put-refusal-requires
-put-refusal-requires c κs = search needs
+put-refusal-requires c κs = tt
 
 enum-known-status : tie.Need-enum-known-status
 enum-known-status c = search needs
 
 put-mosfet-status-fields-requires : tie.Need-put-mosfet-status-fields-requires
-put-mosfet-status-fields-requires c κs = search needs
+put-mosfet-status-fields-requires c κs = tt
 
 same-length : tie.Need-same-length
 same-length c = search needs

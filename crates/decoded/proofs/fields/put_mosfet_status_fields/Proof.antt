@@ -4,13 +4,13 @@ use Rattle.decoded.proofs.fields.put_mosfet_status_fields.Statement.{st
 use Rattle.decoded.proofs.fields.put_mosfet_status_fields.Tie as tie
 
 put-mosfet-front-requires : tie.Need-put-mosfet-front-requires
-put-mosfet-front-requires c κs = search needs
+put-mosfet-front-requires c κs = tt
 
 put-hex2-requires : tie.Need-put-hex2-requires
-put-hex2-requires c κs = search needs
+put-hex2-requires c κs = tt
 
 put-float-requires : tie.Need-put-float-requires
-put-float-requires c κs = search needs
+put-float-requires c κs = tt
 
 same-length : tie.Need-same-length
 same-length c = search needs

@@ -4,16 +4,16 @@ use Rattle.decoded.proofs.fields.put_status_fields.Statement.{statement
 use Rattle.decoded.proofs.fields.put_status_fields.Tie as tie
 
 put-status-front-requires : tie.Need-put-status-front-requires
-put-status-front-requires c κs = search needs
+put-status-front-requires c κs = tt
 
 put-inputs-requires : tie.Need-put-inputs-requires
-put-inputs-requires c κs = search needs
+put-inputs-requires c κs = tt
 
 put-outputs-requires : tie.Need-put-outputs-requires
-put-outputs-requires c κs = search needs
+put-outputs-requires c κs = tt
 
 put-two-requires : tie.Need-put-two-requires
-put-two-requires c κs = search needs
+put-two-requires c κs = tt
 
 same-length : tie.Need-same-length
 same-length c = search needs

@@ -7,7 +7,7 @@ use Rattle.decoded.proofs.fields.put_temperature_range_fields.Statement
 use Rattle.decoded.proofs.fields.put_temperature_range_fields.Tie as tie
 
 put-hex2-requires : tie.Need-put-hex2-requires
-put-hex2-requires c κs = search needs
+put-hex2-requires c κs = tt
 
 cast-put-degrees : tie.Need-cast-put-degrees
 cast-put-degrees c =
@@ -15,10 +15,10 @@ cast-put-degrees c =
     byte-fits _ fits
 
 put-degrees-requires : tie.Need-put-degrees-requires
-put-degrees-requires c κs = search needs
+put-degrees-requires c κs = tt
 
 put-hex2-requires-2 : tie.Need-put-hex2-requires-2
-put-hex2-requires-2 c κs = search needs
+put-hex2-requires-2 c κs = tt
 
 cast-put-degrees-2 : tie.Need-cast-put-degrees-2
 cast-put-degrees-2 c =
@@ -26,10 +26,10 @@ cast-put-degrees-2 c =
     byte-fits _ fits
 
 put-degrees-requires-2 : tie.Need-put-degrees-requires-2
-put-degrees-requires-2 c κs = search needs
+put-degrees-requires-2 c κs = tt
 
 put-hex2-requires-3 : tie.Need-put-hex2-requires-3
-put-hex2-requires-3 c κs = search needs
+put-hex2-requires-3 c κs = tt
 
 same-length : tie.Need-same-length
 same-length c = search needs

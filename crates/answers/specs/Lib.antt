@@ -1,0 +1,3 @@
+-- The stored questions and their answers. A reader begins with `Questions`.
+pub mod Runs
+pub mod Questions

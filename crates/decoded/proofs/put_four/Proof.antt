@@ -1,0 +1,32 @@
+use Rattle.decoded.specs.Hex.{hex8}
+use Rattle.text.proofs.Putting.{put-then}
+use borrow.Author.Needs.{needs}
+use Rattle.decoded.proofs.put_four.Statement.{statement}
+use Rattle.decoded.proofs.put_four.Tie as tie
+
+cast-put-two : tie.Need-cast-put-two
+cast-put-two c = search needs
+
+put-two-requires : tie.Need-put-two-requires
+put-two-requires c κs = tt
+
+cast-put-two-2 : tie.Need-cast-put-two-2
+cast-put-two-2 c = search needs
+
+put-two-requires-2 : tie.Need-put-two-requires-2
+put-two-requires-2 c κs = tt
+
+same-length : tie.Need-same-length
+same-length c = search needs
+
+returns : tie.Need-returns
+unfolding hex8
+returns c =
+    let start = c .before .before .before .before .before .before .before .before .before in
+    let long = start .good .0 .0 in
+    put-then long (c .before .before .before .before .before .before .put-two .ensures) (c .before .before .put-two2 .ensures)
+
+pub put-four-spec : {M : Type 1} → statement M
+put-four-spec =
+    tie.close
+    (tie.spec cast-put-two put-two-requires cast-put-two-2 put-two-requires-2 same-length returns)

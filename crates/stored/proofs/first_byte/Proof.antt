@@ -1,0 +1,20 @@
+use lib.ListN.{List·getD-eq-default}
+use mathlib.Core.Path.{sym}
+use native.Mathlib.Omega.{arith}
+use borrow.Author.Needs.{needs}
+use Rattle.stored.proofs.first_byte.Statement.{statement}
+use Rattle.stored.proofs.first_byte.Tie as tie
+
+returns : tie.Need-returns
+returns c =
+    let s = c .before .args .line .now in
+    sym (List·getD-eq-default s 0 (omega arith))
+
+shared-slice-read-result : tie.Need-shared-slice-read-result
+shared-slice-read-result c = search needs
+
+returns-2 : tie.Need-returns-2
+returns-2 c = search needs
+
+pub first-byte-spec : {M : Type 1} → statement M
+first-byte-spec = tie.close (tie.spec returns shared-slice-read-result returns-2)

@@ -18,7 +18,7 @@ use Rattle.stored.specs.Cases.{digitValue, pairValue, questionOf, caseLi
 one-same : (n : ℕ) → eqb n n ≡ true
 one-same n = eq-eqb n n refl
 
-same-self : (xs : List ℕ) → sameBytes xs xs ≡ true
+pub same-self : (xs : List ℕ) → sameBytes xs xs ≡ true
 unfolding sameBytes
 same-self [] = refl
 same-self (x ∷ xs) = rw (one-same x, same-self xs)
@@ -92,11 +92,11 @@ question-none [] h = refl
 question-none (x ∷ []) h = refl
 question-none (x ∷ (y ∷ ys)) h = absurd (omega arith)
 
-question-space : (a b : ℕ) (xs : List ℕ) → a ≡ 32 → questionOf (a ∷ (b ∷ xs)) ≡ []
+pub question-space : (a b : ℕ) (xs : List ℕ) → a ≡ 32 → questionOf (a ∷ (b ∷ xs)) ≡ []
 unfolding questionOf
 question-space a b xs e = rw (eq-eqb a 32 e)
 
-question-pair : (a b : ℕ) (xs : List ℕ) → (a ≡ 32 → ⊥) → questionOf (a ∷ (b ∷ xs)) ≡ pairValue a b ∷ questionOf xs
+pub question-pair : (a b : ℕ) (xs : List ℕ) → (a ≡ 32 → ⊥) → questionOf (a ∷ (b ∷ xs)) ≡ pairValue a b ∷ questionOf xs
 unfolding questionOf
 question-pair a b xs e = rw (ne-eqb a 32 e)
 

@@ -1,82 +1,42 @@
 // P6 to P10, and P14: what is read from replies.
-use crate::put::put_bool;
-use crate::put::put_integer;
-use crate::put::put_number;
+use crate::lines::Lines;
 use list::Listed;
 use pack::PackAnswer;
 use soc::SocCounts;
 use soc::SocCountsAnswer;
 use temperature_range::TemperatureRange;
 use temperature_range::TemperatureRangeAnswer;
-use text::put_byte;
-use text::put_word;
 
 // "the frame in the input above"
-pub const SOC: [u8; 13] = [
-    0xA5,
-    0x01,
-    0x90,
-    0x08,
-    0x02,
-    0x0B,
-    0x00,
-    0x00,
-    0x74,
-    0xB7,
-    0x03,
-    0x6A,
-    0xE3,
-];
+pub const SOC: [u8; 13] = *b"\xA5\x01\x90\x08\x02\x0B\x00\x00\x74\xB7\x03\x6A\xE3";
 
 // A valid frame of the board.
 pub fn frame_of(command: u8, data: [u8; 8]) -> [u8; 13] {
-    let mut frame = [
-        0xA5,
-        0x01,
-        command,
-        0x08,
-        data[0],
-        data[1],
-        data[2],
-        data[3],
-        data[4],
-        data[5],
-        data[6],
-        data[7],
-        0,
-    ];
+    let mut frame = *b"\xA5\x01\x00\x08\x00\x00\x00\x00\x00\x00\x00\x00\x00";
+    frame[2] = command;
+    text::put_word(&mut frame, 4, &data);
     let sum = frame::calc_crc(&frame);
     frame[12] = sum;
     frame
 }
 
-fn put_refused(out: &mut [u8], at: usize, number: u8) -> usize {
-    let next = put_word(out, at, b" refused");
-    put_number(out, next, number as u64)
-}
-
-fn put_counts(out: &mut [u8], at: usize, counts: SocCounts) -> usize {
-    let next = put_number(out, at, counts.total_voltage as u64);
-    let next = put_integer(out, next, counts.current);
-    put_number(out, next, counts.soc_percent as u64)
-}
-
-fn put_soc(out: &mut [u8], at: usize, reply: &[u8]) -> usize {
+fn soc_counts(lines: Lines, reply: &[u8]) -> Lines {
     match SocCounts::decode(reply) {
-        SocCountsAnswer::SocCountsGiven(counts) => put_counts(out, at, counts),
-        SocCountsAnswer::SocCountsRefused(refusal) => put_refused(out, at, refusal.number()),
+        SocCountsAnswer::SocCountsGiven(counts) => {
+            let lines = lines.number(counts.total_voltage as u64);
+            let lines = lines.integer(counts.current);
+            lines.number(counts.soc_percent as u64)
+        }
+        SocCountsAnswer::SocCountsRefused(refusal) => lines.refused(refusal),
     }
 }
 
 // The frame, and the same with a 00 appended.
-fn p6(out: &mut [u8], at: usize) -> usize {
-    let soc = SOC;
+fn p6(lines: Lines) -> Lines {
+    let lines = soc_counts(lines.word(b"P6"), &SOC);
     let mut longer = [0u8; 14];
-    put_word(&mut longer, 0, &soc);
-    let next = put_word(out, at, b"P6");
-    let next = put_soc(out, next, &soc);
-    let next = put_soc(out, next, &longer);
-    put_byte(out, next, b'\n')
+    text::put_word(&mut longer, 0, &SOC);
+    soc_counts(lines, &longer).end()
 }
 
 fn wide(degrees: i8) -> i32 {
@@ -84,119 +44,100 @@ fn wide(degrees: i8) -> i32 {
 }
 
 // The highest temperature of a 92 reply with this byte for it.
-fn put_temperature(out: &mut [u8], at: usize, byte: u8) -> usize {
+fn temperature(lines: Lines, byte: u8) -> Lines {
     let reply = frame_of(
         frame::command::TEMPERATURE_RANGE,
         [byte, 1, 0, 2, 0, 0, 0, 0],
     );
     match TemperatureRange::decode(&reply) {
         TemperatureRangeAnswer::TemperatureRangeGiven(range) => {
-            put_integer(out, at, wide(range.highest_temperature))
+            lines.integer(wide(range.highest_temperature))
         }
-        TemperatureRangeAnswer::TemperatureRangeRefused(refusal) => {
-            put_refused(out, at, refusal.number())
-        }
+        TemperatureRangeAnswer::TemperatureRangeRefused(refusal) => lines.refused(refusal),
     }
 }
 
-fn p7(out: &mut [u8], at: usize) -> usize {
-    let next = put_word(out, at, b"P7");
-    let next = put_temperature(out, next, 167);
-    let next = put_temperature(out, next, 168);
-    let next = put_temperature(out, next, 255);
-    put_byte(out, next, b'\n')
+fn p7(lines: Lines) -> Lines {
+    let lines = temperature(lines.word(b"P7"), 167);
+    let lines = temperature(lines, 168);
+    temperature(lines, 255).end()
 }
 
 // The capacity's count as an `f32`, told as the whole number that it equals: 0 stands for any other than the two of P8.
-fn put_nearest(out: &mut [u8], at: usize, count: u32) -> usize {
+fn nearest(lines: Lines, count: u32) -> Lines {
     let nearest = units::nearest_f32(count);
     if nearest == 16777220.0 {
-        return put_number(out, at, 16777220);
+        return lines.number(16777220);
     }
     if nearest == 16777216.0 {
-        return put_number(out, at, 16777216);
+        return lines.number(16777216);
     }
-    put_number(out, at, 0)
+    lines.number(0)
 }
 
-fn p8(out: &mut [u8], at: usize) -> usize {
-    let next = put_word(out, at, b"P8");
-    let next = put_nearest(out, next, 16777219);
-    let next = put_nearest(out, next, 16777217);
-    put_byte(out, next, b'\n')
+fn p8(lines: Lines) -> Lines {
+    let lines = nearest(lines.word(b"P8"), 16777219);
+    nearest(lines, 16777217).end()
 }
 
 // How many flags a 97 reply gives for n cells.
-fn put_flag_count(out: &mut [u8], at: usize, n: u8) -> usize {
+fn flag_count(lines: Lines, n: u8) -> Lines {
     let reply = frame_of(frame::command::CELL_BALANCE_STATE, [0, 0, 0, 0, 0, 0, 0, 0]);
     let mut flags = [false; 48];
     match flags::decode_cell_balance_state(&reply, n, &mut flags) {
-        Listed::Stored(count) => put_number(out, at, count as u64),
-        Listed::NotStored(refusal) => put_refused(out, at, refusal.number()),
+        Listed::Stored(count) => lines.number(count as u64),
+        Listed::NotStored(refusal) => lines.refused(refusal),
     }
 }
 
-fn p9(out: &mut [u8], at: usize) -> usize {
-    let next = put_word(out, at, b"P9");
-    let next = put_flag_count(out, next, 0);
-    let next = put_flag_count(out, next, 49);
-    put_byte(out, next, b'\n')
+fn p9(lines: Lines) -> Lines {
+    let lines = flag_count(lines.word(b"P9"), 0);
+    flag_count(lines, 49).end()
 }
 
-fn put_listed(out: &mut [u8], at: usize, listed: bool, position: u8) -> usize {
-    if listed {
-        return put_number(out, at, position as u64);
+fn position(lines: Lines, stored: bool, position: u8) -> Lines {
+    if stored {
+        return lines.number(position as u64);
     }
-    at
+    lines
 }
 
 // As many positions as were stored.
-fn put_positions(out: &mut [u8], at: usize, positions: &[u8; 48], count: usize) -> usize {
-    let mut next = at;
+fn positions(lines: Lines, positions: [u8; 48], count: usize) -> Lines {
+    let mut lines = lines;
     for i in 0..48 {
-        next = put_listed(out, next, i < count, positions[i]);
+        lines = position(lines, i < count, positions[i]);
     }
-    next
+    lines
 }
 
 // The faults of a 98 reply with this in byte 6.
-fn put_faults(out: &mut [u8], at: usize, byte: u8) -> usize {
+fn faults(lines: Lines, byte: u8) -> Lines {
     let reply = frame_of(frame::command::ERROR_CODE, [0, 0, byte, 0, 0, 0, 0, 0]);
-    let mut positions = [0u8; 48];
-    match flags::decode_error_codes(&reply, &mut positions) {
-        Listed::Stored(count) => put_positions(out, at, &positions, count),
-        Listed::NotStored(refusal) => put_refused(out, at, refusal.number()),
+    let mut out = [0u8; 48];
+    match flags::decode_error_codes(&reply, &mut out) {
+        Listed::Stored(count) => positions(lines, out, count),
+        Listed::NotStored(refusal) => lines.refused(refusal),
     }
 }
 
-fn p10(out: &mut [u8], at: usize) -> usize {
-    let next = put_word(out, at, b"P10");
-    let next = put_faults(out, next, 0x03);
-    put_byte(out, next, b'\n')
+fn p10(lines: Lines) -> Lines {
+    faults(lines.word(b"P10"), 0x03).end()
 }
 
-pub fn put_all(out: &mut [u8], at: usize) -> usize {
-    let next = p6(out, at);
-    let next = p7(out, next);
-    let next = p8(out, next);
-    let next = p9(out, next);
-    p10(out, next)
+pub fn all(lines: Lines) -> Lines {
+    p10(p9(p8(p7(p6(lines)))))
 }
 
-fn put_pack(out: &mut [u8], at: usize, cells: &[u16], total_voltage: u16) -> usize {
-    match pack::pack_check(cells, total_voltage) {
-        PackAnswer::PackChecked(check) => {
-            let next = put_integer(out, at, check.difference);
-            put_bool(out, next, check.agrees)
-        }
-        PackAnswer::PackRefused(refusal) => put_refused(out, at, refusal.number()),
+fn pack(lines: Lines, cells: [u16; 4], total_voltage: u16) -> Lines {
+    match pack::pack_check(&cells, total_voltage) {
+        PackAnswer::PackChecked(check) => lines.integer(check.difference).yes(check.agrees),
+        PackAnswer::PackRefused(refusal) => lines.refused(refusal),
     }
 }
 
 // Cells that sum to 13,050, and to 13,049.
-pub fn p14(out: &mut [u8], at: usize) -> usize {
-    let next = put_word(out, at, b"P14");
-    let next = put_pack(out, next, &[3262, 3262, 3263, 3263], 131);
-    let next = put_pack(out, next, &[3262, 3262, 3262, 3263], 131);
-    put_byte(out, next, b'\n')
+pub fn p14(lines: Lines) -> Lines {
+    let lines = pack(lines.word(b"P14"), [3262, 3262, 3263, 3263], 131);
+    pack(lines, [3262, 3262, 3262, 3263], 131).end()
 }

@@ -1,5 +1,5 @@
-// Document 01's numbers to check. `specs/` has them as one table, and `proofs/Table.antt` that it holds. The program puts each P
-// through the port's functions and writes what they answer; the file `stdout` is written by hand from document 01.
+// Document 01's numbers to check, run: each P goes through the port's functions, and what they answer is written. The file
+// `stdout` is written by hand from document 01. The crate `numbers` has the same numbers as a proved table.
 use libc::STDOUT_FILENO;
 
 mod lines;

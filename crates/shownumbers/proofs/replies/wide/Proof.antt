@@ -5,8 +5,8 @@ use mir.Syntax.{w8, w32}
 use mir.Val.{SFits}
 use mir.Facts.{toZ-ofZ}
 use borrow.Author.Needs.{needs}
-use Rattle.numbers.proofs.replies.wide.Statement.{statement}
-use Rattle.numbers.proofs.replies.wide.Tie as tie
+use Rattle.shownumbers.proofs.replies.wide.Statement.{statement}
+use Rattle.shownumbers.proofs.replies.wide.Tie as tie
 
 cast-result : tie.Need-cast-result
 cast-result c =

@@ -23,8 +23,6 @@ mod trial;
 use std::process::ExitCode;
 use trial::{Outcome, Part};
 
-const DEFAULT_SEED: u64 = 20_261_018;
-
 struct Options {
     seed: u64,
     all_patterns: bool,
@@ -48,14 +46,8 @@ fn options() -> Result<Options, String> {
             }
         }
     }
-    let seed = match seed {
-        None => DEFAULT_SEED,
-        Some(text) => text
-            .parse()
-            .map_err(|_| format!("the seed {text} is no number"))?,
-    };
     Ok(Options {
-        seed,
+        seed: random::seed_of(seed)?,
         all_patterns,
         long,
     })

@@ -1,5 +1,17 @@
 //! The generator of all drawn cases: splitmix64, so that a seed gives the same run everywhere.
 
+const DEFAULT_SEED: u64 = 20_261_018;
+
+/// The seed that a comparison was asked for.
+pub fn seed_of(text: Option<String>) -> Result<u64, String> {
+    match text {
+        None => Ok(DEFAULT_SEED),
+        Some(text) => text
+            .parse()
+            .map_err(|_| format!("the seed {text} is no number")),
+    }
+}
+
 pub struct Random(u64);
 
 impl Random {

@@ -18,7 +18,6 @@ use std::path::PathBuf;
 use std::process::ExitCode;
 use std::time::Duration;
 
-const DEFAULT_SEED: u64 = 20_261_018;
 const DEFAULT_PROGRAM: &str = "target/bin/readreply";
 /// Demanded of all parts together.
 const CASES: usize = 20_000;
@@ -49,14 +48,8 @@ fn options() -> Result<Options, String> {
             }
         }
     }
-    let seed = match seed {
-        None => DEFAULT_SEED,
-        Some(text) => text
-            .parse()
-            .map_err(|_| format!("the seed {text} is no number"))?,
-    };
     Ok(Options {
-        seed,
+        seed: reference::random::seed_of(seed)?,
         program: PathBuf::from(program.unwrap_or(DEFAULT_PROGRAM.to_string())),
         write_samples,
     })

@@ -1,0 +1,256 @@
+/*
+ * Reads Daly battery boards: requests, replies, and the frames of a noisy serial line.
+ *
+ * Link libdaly.a, which `rt staticlib daly` writes to target/staticlib. It runs on x86-64 Linux, needs
+ * nothing but the C library, allocates nothing, keeps nothing between calls and never stops the program:
+ * every call answers, whatever it is given. What each function answers is proved (docs/PROMISES.md).
+ *
+ * For every function:
+ * - A pointer comes with a length, or to an array of the length in its declaration. It is never NULL, not
+ *   even with length 0, and what it points to stays as it is, and stays alive, during the call.
+ * - Memory that a function writes to overlaps nothing else that it is given.
+ * - A `bool` is 0 or 1, also in a struct that you hand in.
+ * - `number` is 0 for done, or a refusal. A refused record is all zero, and a refusal writes nothing into
+ *   memory that you lent.
+ */
+#ifndef DALY_H
+#define DALY_H
+
+#include <stdbool.h>
+#include <stddef.h>
+#include <stdint.h>
+
+#ifdef __cplusplus
+extern "C" {
+#endif
+
+/* ---- Refusals */
+
+enum {
+    DALY_DONE = 0,
+    DALY_REPLY_SIZE = 1,        /* the reply is shorter than needed; no full frame k */
+    DALY_UNEXPECTED_FRAME = 2,  /* byte 0 is not A5, or byte 2 not the command; a push: over 512 bytes discarded */
+    DALY_CHECK_SUM = 3,         /* the sum differs */
+    DALY_FRAME_NO = 4,          /* byte 4 is not the frame's place */
+    DALY_UNKNOWN_MODE = 5,      /* byte 4 of a 93 reply is over 2 */
+    DALY_REPLY_TOO_LONG = 6,    /* a reader's reply size is over 1,105 */
+    DALY_REQUEST_TOO_SHORT = 7, /* a reader's request has under 3 bytes */
+    DALY_BAD_STATE = 8,         /* the reader's fields contradict one another */
+    DALY_NO_ROOM = 9,           /* the lent places are too few */
+    DALY_UNKNOWN_COMMAND = 10   /* there is no request of this command */
+};
+
+#define DALY_FRAME 13    /* bytes of a frame */
+#define DALY_FRAMES 1105 /* bytes that a reader has room for: 85 frames */
+
+/* ---- Frames */
+
+/* The sum of all bytes but the last, modulo 256; 0 for a buffer of 0 or 1 bytes. */
+uint8_t daly_calc_crc(const uint8_t *buffer, size_t len);
+
+/* Whether the buffer is a right frame of this command: 0, or 1, 2 or 3, in this order. */
+uint8_t daly_frame_check(const uint8_t *buffer, size_t len, uint8_t command);
+
+/* Whether the buffer has a full frame k, counted from 0: 0 or 1. It begins at buffer + 13 * k. */
+uint8_t daly_frame_refusal(const uint8_t *buffer, size_t len, size_t k);
+
+/* ---- Requests */
+
+/*
+ * The 13 bytes to send: 0 and `out` filled, or 10 and `out` as it was.
+ * 90 to 98 ask for a reply; D9 and DA switch the discharging and the charging MOSFET as `enable` says; 21
+ * sets the charge to `soc_percent`, rounded to tenths, halves away from zero, within 0 to 100, a NaN as 0;
+ * 00 resets the board. What a command does not use is ignored.
+ */
+uint8_t daly_request(uint8_t command, bool enable, float soc_percent, uint8_t out[DALY_FRAME]);
+
+/* ---- Replies of one frame: `number` is 0, 1, 2 or 3 */
+
+/*
+ * A decoder looks at the whole buffer: the sum is that of all bytes but the last, even past 13. The records
+ * with floats have what the Rust has, to the last bit; the `_counts` have the board's own whole numbers.
+ */
+
+/* 90: volts, amperes (below 0 while discharging), percent; as counts, tenths of each */
+struct daly_soc {
+    uint8_t number;
+    float total_voltage;
+    float current;
+    float soc_percent;
+};
+struct daly_soc daly_soc(const uint8_t *reply, size_t len);
+
+struct daly_soc_counts {
+    uint8_t number;
+    uint16_t total_voltage;
+    int32_t current;
+    uint16_t soc_percent;
+};
+struct daly_soc_counts daly_soc_counts(const uint8_t *reply, size_t len);
+
+/* 91: volts; as counts, millivolts */
+struct daly_cell_voltage_range {
+    uint8_t number;
+    float highest_voltage;
+    uint8_t highest_cell;
+    float lowest_voltage;
+    uint8_t lowest_cell;
+};
+struct daly_cell_voltage_range daly_cell_voltage_range(const uint8_t *reply, size_t len);
+
+struct daly_cell_voltage_range_counts {
+    uint8_t number;
+    uint16_t highest_voltage;
+    uint8_t highest_cell;
+    uint16_t lowest_voltage;
+    uint8_t lowest_cell;
+};
+struct daly_cell_voltage_range_counts daly_cell_voltage_range_counts(const uint8_t *reply, size_t len);
+
+/* 92: degrees. A byte is 40 more; what is over 127 wraps, as in the Rust */
+struct daly_temperature_range {
+    uint8_t number;
+    int8_t highest_temperature;
+    uint8_t highest_sensor;
+    int8_t lowest_temperature;
+    uint8_t lowest_sensor;
+};
+struct daly_temperature_range daly_temperature_range(const uint8_t *reply, size_t len);
+
+/* 93: the mode is 0 stationary, 1 charging, 2 discharging, and any other refusal 5; capacity in Ah, as a
+ * count in thousandths */
+struct daly_mosfet_status {
+    uint8_t number;
+    uint8_t mode;
+    bool charging_mosfet;
+    bool discharging_mosfet;
+    uint8_t bms_cycles;
+    float capacity_ah;
+};
+struct daly_mosfet_status daly_mosfet_status(const uint8_t *reply, size_t len);
+
+struct daly_mosfet_status_counts {
+    uint8_t number;
+    uint8_t mode;
+    bool charging_mosfet;
+    bool discharging_mosfet;
+    uint8_t bms_cycles;
+    uint32_t capacity_ah;
+};
+struct daly_mosfet_status_counts daly_mosfet_status_counts(const uint8_t *reply, size_t len);
+
+/* 94 */
+struct daly_status {
+    uint8_t number;
+    uint8_t cells;
+    uint8_t temperature_sensors;
+    bool charger_running;
+    bool load_running;
+    bool di1, di2, di3, di4;
+    bool do1, do2, do3, do4;
+    uint16_t cycles;
+};
+struct daly_status daly_status(const uint8_t *reply, size_t len);
+
+/* ---- Lists, into lent places */
+
+/*
+ * `room` is how many places `out` has. Done, `count` values stand at its front and the places behind them
+ * are as they were. Refusals: 1, 9, then frame by frame; of 95 and 96: 4, 2, 3, of 97 and 98: 2, 3.
+ */
+struct daly_list {
+    uint8_t number;
+    size_t count;
+};
+
+/* 95: volts, or millivolts. 13 bytes for every 3 cells */
+size_t daly_cell_voltages_reply_size(uint8_t n_cells);
+struct daly_list daly_cell_voltages(const uint8_t *reply, size_t len, uint8_t n_cells, float *out, size_t room);
+struct daly_list daly_cell_millivolts(const uint8_t *reply, size_t len, uint8_t n_cells, uint16_t *out, size_t room);
+
+/* 96: degrees. 13 bytes for every 7 sensors */
+size_t daly_cell_temperatures_reply_size(uint8_t n_sensors);
+struct daly_list daly_cell_temperatures(const uint8_t *reply, size_t len, uint8_t n_sensors, int32_t *out, size_t room);
+
+/* 97: a flag for each cell; 0 cells give one flag, over 48 give 48 */
+struct daly_list daly_cell_balance_state(const uint8_t *reply, size_t len, uint8_t n_cells, bool *out, size_t room);
+
+/* 98: the faults, as positions in docs/FAULTS.md; needs room for all 48 */
+struct daly_list daly_error_codes(const uint8_t *reply, size_t len, uint8_t *out, size_t room);
+
+/* ---- The reader of a reply's frames */
+
+/*
+ * Bytes come in any chunks; how they are cut does not matter. Bytes taken are at all times
+ * held + 13 * collected + discarded + 13 * cleared, modulo 2^32.
+ */
+struct daly_counts {
+    uint8_t command;
+    bool mark;          /* more than 512 bytes were ever discarded */
+    uint32_t taken;     /* bytes, modulo 2^32 */
+    uint32_t discarded; /* bytes, modulo 2^32 */
+    uint32_t cleared;   /* frames dropped because the board began again, modulo 2^32 */
+    size_t wanted;      /* frames */
+    size_t collected;   /* frames */
+    size_t held;        /* bytes */
+};
+
+/* The collected frames stand at the front of `frames`, the held bytes behind them. */
+struct daly_reader {
+    struct daly_counts counts;
+    uint8_t frames[DALY_FRAMES];
+};
+
+/* A reader for the reply to `request`, of `reply_size` bytes: 0, or 7 or 6 with a reader that is all zero. */
+struct daly_opened {
+    uint8_t number;
+    struct daly_reader reader;
+};
+struct daly_opened daly_reader_new(const uint8_t *request, size_t len, size_t reply_size);
+
+/*
+ * What a push says: 0; 2 where more than 512 bytes were ever discarded, with the chunk taken all the same;
+ * 8 where the reader's fields contradict one another, and then it stays as it was. `took` is how many bytes
+ * of the chunk were taken: a complete reader takes none.
+ */
+struct daly_said {
+    uint8_t status;
+    size_t took;
+};
+
+/* A push into frames of yours: hand in the counts, and go on with those that come back. The quicker one. */
+struct daly_told {
+    struct daly_said said;
+    struct daly_counts counts;
+};
+struct daly_told daly_push_into(uint8_t frames[DALY_FRAMES], struct daly_counts counts, const uint8_t *chunk, size_t len);
+
+/* The same on a reader by value: go on with the one that comes back. */
+struct daly_pushed {
+    struct daly_said said;
+    struct daly_reader reader;
+};
+struct daly_pushed daly_reader_push(struct daly_reader reader, const uint8_t *chunk, size_t len);
+
+/* How many bytes the next frame still needs, 0 when complete: 0 or 8. */
+struct daly_missing {
+    uint8_t number;
+    size_t missing;
+};
+struct daly_missing daly_reader_missing(struct daly_reader reader);
+
+/* Whether all wanted frames are there: 0 or 8. */
+struct daly_completed {
+    uint8_t number;
+    bool complete;
+};
+struct daly_completed daly_reader_is_complete(struct daly_reader reader);
+
+/* The collected frames, one after the other, complete or not: 0, 8 or 9. The decoders read them. */
+struct daly_list daly_reader_copy_out(struct daly_reader reader, uint8_t *out, size_t room);
+
+#ifdef __cplusplus
+}
+#endif
+
+#endif

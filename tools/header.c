@@ -1,0 +1,169 @@
+/* What include/daly.h declares, held to libdaly.a: sizes, places of fields, and an answer of every function.
+ * Expected values are worked out by hand from document 01. Closes with `N passed, M failed`. */
+#include <stdio.h>
+#include <string.h>
+
+#include "daly.h"
+
+_Static_assert(sizeof(struct daly_counts) == 40, "counts");
+_Static_assert(offsetof(struct daly_counts, taken) == 4 && offsetof(struct daly_counts, wanted) == 16, "counts");
+_Static_assert(offsetof(struct daly_reader, frames) == 40 && sizeof(struct daly_reader) == 1152, "reader");
+_Static_assert(offsetof(struct daly_opened, reader) == 8 && sizeof(struct daly_opened) == 1160, "opened");
+_Static_assert(offsetof(struct daly_told, counts) == 16 && sizeof(struct daly_told) == 56, "told");
+_Static_assert(offsetof(struct daly_pushed, reader) == 16 && sizeof(struct daly_pushed) == 1168, "pushed");
+_Static_assert(sizeof(struct daly_list) == 16 && sizeof(struct daly_missing) == 16, "list, missing");
+_Static_assert(sizeof(struct daly_completed) == 2, "completed");
+_Static_assert(sizeof(struct daly_soc) == 16 && sizeof(struct daly_soc_counts) == 12, "90");
+_Static_assert(sizeof(struct daly_cell_voltage_range) == 20 && sizeof(struct daly_cell_voltage_range_counts) == 10, "91");
+_Static_assert(sizeof(struct daly_temperature_range) == 5, "92");
+_Static_assert(sizeof(struct daly_mosfet_status) == 12 && sizeof(struct daly_mosfet_status_counts) == 12, "93");
+_Static_assert(sizeof(struct daly_status) == 16 && offsetof(struct daly_status, cycles) == 14, "94");
+
+static int passed, failed;
+
+static void test(bool good, const char *what)
+{
+    good ? passed++ : failed++;
+    printf("%s %s\n", good ? "ok    " : "FAILED", what);
+}
+
+/* A right frame as a board sends it. */
+static void frame(uint8_t *to, uint8_t command, const uint8_t data[8])
+{
+    const uint8_t head[4] = {0xA5, 0x01, command, 0x08};
+    memcpy(to, head, 4);
+    memcpy(to + 4, data, 8);
+    to[12] = 0;
+    for (int i = 0; i < 12; i++)
+        to[12] = (uint8_t)(to[12] + to[i]);
+}
+
+static const uint8_t soc[13] = {0xA5, 0x01, 0x90, 0x08, 0x02, 0x0B, 0x00, 0x00, 0x74, 0xB7, 0x03, 0x6A, 0xE3};
+
+static void requests_and_frames(void)
+{
+    const uint8_t p1[13] = {0xA5, 0x40, 0x90, 0x08, 0, 0, 0, 0, 0, 0, 0, 0, 0x7D};
+    const uint8_t p2[13] = {0xA5, 0x40, 0x21, 0x08, 0, 0, 0, 0, 0, 0, 0, 3, 0x11};
+    const uint8_t on[13] = {0xA5, 0x40, 0xDA, 0x08, 1, 0, 0, 0, 0, 0, 0, 0, 0xC8};
+    uint8_t out[DALY_FRAME];
+    test(daly_request(0x90, false, 0, out) == DALY_DONE && memcmp(out, p1, 13) == 0, "daly_request: P1");
+    test(daly_request(0x21, false, 0.25f, out) == DALY_DONE && memcmp(out, p2, 13) == 0, "daly_request: P2");
+    test(daly_request(0xDA, true, 0, out) == DALY_DONE && memcmp(out, on, 13) == 0, "daly_request: a switch");
+    test(daly_request(0x99, true, 0, out) == DALY_UNKNOWN_COMMAND && memcmp(out, on, 13) == 0, "daly_request: none");
+    test(daly_calc_crc(soc, 13) == 0xE3 && daly_calc_crc(soc, 1) == 0, "daly_calc_crc");
+    test(daly_frame_check(soc, 13, 0x90) == DALY_DONE && daly_frame_check(soc, 12, 0x90) == DALY_REPLY_SIZE &&
+             daly_frame_check(soc, 13, 0x91) == DALY_UNEXPECTED_FRAME,
+         "daly_frame_check");
+    test(daly_frame_refusal(soc, 13, 0) == DALY_DONE && daly_frame_refusal(soc, 13, 1) == DALY_REPLY_SIZE, "daly_frame_refusal");
+}
+
+static void records(void)
+{
+    uint8_t reply[14];
+    memcpy(reply, soc, 13);
+    reply[13] = 0;
+    struct daly_soc_counts c = daly_soc_counts(soc, 13);
+    test(c.number == 0 && c.total_voltage == 523 && c.current == -121 && c.soc_percent == 874, "daly_soc_counts: P6");
+    test(daly_soc_counts(reply, 14).number == DALY_CHECK_SUM, "daly_soc_counts: P6 with a 00 appended");
+    struct daly_soc s = daly_soc(soc, 13);
+    test(s.number == 0 && s.total_voltage == 523 / 10.0f && s.current == -121 / 10.0f && s.soc_percent == 874 / 10.0f, "daly_soc");
+
+    frame(reply, 0x91, (const uint8_t[8]){0x0C, 0xE5, 3, 0x0C, 0xE0, 8, 0, 0});
+    struct daly_cell_voltage_range_counts vc = daly_cell_voltage_range_counts(reply, 13);
+    test(vc.number == 0 && vc.highest_voltage == 3301 && vc.highest_cell == 3 && vc.lowest_voltage == 3296 && vc.lowest_cell == 8,
+         "daly_cell_voltage_range_counts");
+    struct daly_cell_voltage_range v = daly_cell_voltage_range(reply, 13);
+    test(v.number == 0 && v.highest_voltage == 3301 / 1000.0f && v.highest_cell == 3 && v.lowest_voltage == 3296 / 1000.0f && v.lowest_cell == 8,
+         "daly_cell_voltage_range");
+
+    frame(reply, 0x92, (const uint8_t[8]){167, 1, 168, 2, 0, 0, 0, 0});
+    struct daly_temperature_range t = daly_temperature_range(reply, 13);
+    test(t.number == 0 && t.highest_temperature == 127 && t.highest_sensor == 1 && t.lowest_temperature == -128 && t.lowest_sensor == 2,
+         "daly_temperature_range: P7");
+
+    frame(reply, 0x93, (const uint8_t[8]){2, 1, 0, 23, 0x01, 0x00, 0x00, 0x03});
+    struct daly_mosfet_status_counts mc = daly_mosfet_status_counts(reply, 13);
+    test(mc.number == 0 && mc.mode == 2 && mc.charging_mosfet && !mc.discharging_mosfet && mc.bms_cycles == 23 && mc.capacity_ah == 16777219,
+         "daly_mosfet_status_counts");
+    struct daly_mosfet_status m = daly_mosfet_status(reply, 13);
+    test(m.number == 0 && m.mode == 2 && m.bms_cycles == 23 && m.capacity_ah == 16777220.0f / 1000.0f, "daly_mosfet_status: P8");
+    frame(reply, 0x93, (const uint8_t[8]){3, 1, 0, 23, 0, 0, 0, 3});
+    test(daly_mosfet_status(reply, 13).number == DALY_UNKNOWN_MODE, "daly_mosfet_status: mode 3");
+
+    frame(reply, 0x94, (const uint8_t[8]){8, 2, 1, 0, 0x21, 0x01, 0x2C, 0});
+    struct daly_status st = daly_status(reply, 13);
+    test(st.number == 0 && st.cells == 8 && st.temperature_sensors == 2 && st.charger_running && !st.load_running && st.di1 && !st.di2 &&
+             !st.do1 && st.do2 && !st.do4 && st.cycles == 300,
+         "daly_status");
+}
+
+static void lists(void)
+{
+    uint8_t reply[26];
+    frame(reply, 0x95, (const uint8_t[8]){1, 0x0C, 0xE5, 0x0C, 0xE2, 0x0C, 0xE6, 0});
+    frame(reply + 13, 0x95, (const uint8_t[8]){2, 0x0C, 0xE1, 0, 0, 0, 0, 0});
+    uint16_t millivolts[5] = {9, 9, 9, 9, 9};
+    struct daly_list l = daly_cell_millivolts(reply, 26, 4, millivolts, 5);
+    test(l.number == 0 && l.count == 4 && millivolts[0] == 3301 && millivolts[3] == 3297 && millivolts[4] == 9, "daly_cell_millivolts");
+    float volts[4];
+    l = daly_cell_voltages(reply, 26, 4, volts, 4);
+    test(l.number == 0 && l.count == 4 && volts[2] == 3302 / 1000.0f, "daly_cell_voltages");
+    test(daly_cell_voltages(reply, 26, 4, volts, 3).number == DALY_NO_ROOM, "daly_cell_voltages: no room");
+    reply[4] = 2;
+    reply[12]++;
+    test(daly_cell_voltages(reply, 26, 4, volts, 4).number == DALY_FRAME_NO, "daly_cell_voltages: not in order");
+    test(daly_cell_voltages_reply_size(4) == 26 && daly_cell_temperatures_reply_size(8) == 26, "reply sizes");
+
+    frame(reply, 0x96, (const uint8_t[8]){1, 65, 0, 255, 0, 0, 0, 0});
+    int32_t degrees[3];
+    l = daly_cell_temperatures(reply, 13, 3, degrees, 3);
+    test(l.number == 0 && l.count == 3 && degrees[0] == 25 && degrees[1] == -40 && degrees[2] == 215, "daly_cell_temperatures");
+
+    frame(reply, 0x97, (const uint8_t[8]){0x05, 0, 0, 0, 0, 0, 0, 0});
+    bool flags[3];
+    l = daly_cell_balance_state(reply, 13, 3, flags, 3);
+    test(l.number == 0 && l.count == 3 && flags[0] && !flags[1] && flags[2], "daly_cell_balance_state");
+
+    frame(reply, 0x98, (const uint8_t[8]){0, 0, 0x03, 0, 0, 0, 0, 0});
+    uint8_t faults[48];
+    l = daly_error_codes(reply, 13, faults, 48);
+    test(l.number == 0 && l.count == 2 && faults[0] == 17 && faults[1] == 16, "daly_error_codes: P10");
+}
+
+static void reader(void)
+{
+    uint8_t request[DALY_FRAME], out[DALY_FRAME];
+    const uint8_t noise[2] = {0x00, 0xA5};
+    daly_request(0x90, false, 0, request);
+    test(daly_reader_new(request, 2, 13).number == DALY_REQUEST_TOO_SHORT, "daly_reader_new: a short request");
+    test(daly_reader_new(request, 13, 1106).number == DALY_REPLY_TOO_LONG, "daly_reader_new: a long reply");
+    struct daly_opened o = daly_reader_new(request, 13, 13);
+    test(o.number == 0 && o.reader.counts.command == 0x90 && o.reader.counts.wanted == 1, "daly_reader_new");
+
+    struct daly_told t = daly_push_into(o.reader.frames, o.reader.counts, noise, 2);
+    test(t.said.status == 0 && t.said.took == 2 && t.counts.discarded == 1 && t.counts.held == 1, "daly_push_into");
+    o.reader.counts = t.counts;
+    struct daly_missing m = daly_reader_missing(o.reader);
+    test(m.number == 0 && m.missing == 12, "daly_reader_missing");
+    struct daly_pushed p = daly_reader_push(o.reader, soc, 13);
+    const struct daly_counts *c = &p.reader.counts;
+    test(p.said.status == 0 && p.said.took == 13 && c->taken == 15 && c->discarded == 2 && c->cleared == 0 && c->collected == 1 && c->held == 0,
+         "daly_reader_push: document 01's example");
+    struct daly_completed d = daly_reader_is_complete(p.reader);
+    test(d.number == 0 && d.complete, "daly_reader_is_complete");
+    struct daly_list l = daly_reader_copy_out(p.reader, out, 13);
+    test(l.number == 0 && l.count == 13 && memcmp(out, soc, 13) == 0, "daly_reader_copy_out");
+    test(daly_reader_copy_out(p.reader, out, 12).number == DALY_NO_ROOM, "daly_reader_copy_out: no room");
+    p.reader.counts.held = 13;
+    test(daly_reader_missing(p.reader).number == DALY_BAD_STATE, "daly_reader_missing: a bad state");
+}
+
+int main(void)
+{
+    requests_and_frames();
+    records();
+    lists();
+    reader();
+    printf("%d passed, %d failed\n", passed, failed);
+    return failed != 0;
+}

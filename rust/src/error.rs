@@ -1,0 +1,64 @@
+//! The refusals of the library, as errors.
+
+use std::fmt::{self, Display, Formatter};
+
+/// Why there is no reading. The first four are those of `dalybms_lib`.
+#[derive(Clone, Copy, Debug, PartialEq, Eq)]
+pub enum Error {
+    /// The reply is shorter than needed.
+    ReplySizeError,
+    /// The reply does not begin with A5 or answers another command; of a push: more than 512 bytes were
+    /// discarded.
+    UnexpectedFrame,
+    /// The sum is wrong.
+    CheckSumError,
+    /// The frames of the reply are not in order.
+    FrameNoError,
+    /// A 93 reply has a mode other than 0, 1 and 2. `dalybms_lib` panics.
+    UnknownMode,
+    /// A reader was made for more than 1,105 bytes. `dalybms_lib` takes it.
+    ReplyTooLong,
+    /// A reader was made for a request of fewer than 3 bytes. `dalybms_lib` panics.
+    RequestTooShort,
+    /// The reader's fields contradict one another. No reader of this crate comes to it.
+    BadState,
+    /// The library answered this number, which it is proved not to do: another library was linked.
+    Impossible(u8),
+}
+
+impl Error {
+    /// The library's number as a result; 0 is done.
+    pub(crate) fn check(number: u8) -> Result<(), Self> {
+        Err(match number {
+            0 => return Ok(()),
+            1 => Self::ReplySizeError,
+            2 => Self::UnexpectedFrame,
+            3 => Self::CheckSumError,
+            4 => Self::FrameNoError,
+            5 => Self::UnknownMode,
+            6 => Self::ReplyTooLong,
+            7 => Self::RequestTooShort,
+            8 => Self::BadState,
+            other => Self::Impossible(other),
+        })
+    }
+}
+
+/// Words of this crate's own.
+impl Display for Error {
+    fn fmt(&self, f: &mut Formatter<'_>) -> fmt::Result {
+        f.write_str(match self {
+            Self::ReplySizeError => "the reply is too short",
+            Self::UnexpectedFrame => "no frame of the reply, or too many bytes discarded",
+            Self::CheckSumError => "the sum is wrong",
+            Self::FrameNoError => "the frames are not in order",
+            Self::UnknownMode => "the mode is unknown",
+            Self::ReplyTooLong => "the reader has no room for such a reply",
+            Self::RequestTooShort => "the request is too short",
+            Self::BadState => "the reader's state is bad",
+            Self::Impossible(number) => return write!(f, "the library answered {number}"),
+        })
+    }
+}
+
+impl std::error::Error for Error {}

@@ -1,0 +1,48 @@
+//! The protocol of Daly battery boards for controllers in Rust.
+//!
+//! The module [`protocol`] has the names and signatures of `dalybms_lib::protocol`, so a controller
+//! changes its `use` lines and nothing else:
+//!
+//! ```
+//! use daly::protocol::{Address, FrameReader, Soc}; // was: dalybms_lib::protocol
+//!
+//! fn charge(line: &[u8]) -> Result<f32, daly::Error> {
+//!     let mut reader = FrameReader::new(&Soc::request(Address::Host), Soc::reply_size());
+//!     reader.push(line)?;
+//!     Ok(Soc::decode(&reader.into_bytes())?.soc_percent)
+//! }
+//!
+//! let line = [0x00, 0xA5, 0xA5, 0x01, 0x90, 0x08, 0x02, 0x0B, 0x00, 0x00, 0x74, 0xB7, 0x03, 0x6A, 0xE3];
+//! assert_eq!(charge(&line), Ok(87.4));
+//! ```
+//!
+//! All of it is done by calls into `libdaly.a`, of which every function is proved. Nothing is worked out
+//! here: answers are turned into the types above, and memory is lent. Build the archive by
+//! `rt staticlib daly`; it runs on x86-64 Linux. `DALY_LIB_DIR` names its folder where that is not
+//! `../target/staticlib` beside this crate.
+//!
+//! # Where it parts from `dalybms_lib`
+//!
+//! - An unknown mode in a right 93 reply is [`Error::UnknownMode`], where `dalybms_lib` panics.
+//! - 255 temperature sensors give 255 temperatures, where `dalybms_lib` gives 259: the first 255 are the
+//!   same.
+//! - A reader has room for a reply of 1,105 bytes, the longest that the protocol has. A longer one is
+//!   [`Error::ReplyTooLong`]; a request of fewer than 3 bytes is [`Error::RequestTooShort`], where
+//!   `dalybms_lib` panics. `FrameReader::new` answers a reader and no error, so such a reader is made and
+//!   remembers its refusal: it is never complete, lacks a frame, has no bytes, and every push answers the
+//!   error. [`protocol::FrameReader::refusal`], which `dalybms_lib` has not, tells it at once.
+//! - `dalybms_lib`'s own `Error` was not given: [`Error`] has the four variants that its `protocol` names.
+//! - Left out: `MINIMUM_DELAY` (4 milliseconds), the sentences of `ErrorCode` (its `Display`), serde, log
+//!   lines, and the clients.
+//!
+//! The library builds requests from the host's address, 40 hexadecimal, and
+//! [`protocol::Address`] has that one alone, here as in `dalybms_lib`: no other request can be asked for.
+
+#![deny(missing_docs)]
+#![deny(unsafe_op_in_unsafe_fn)]
+
+mod error;
+mod ffi;
+pub mod protocol;
+
+pub use error::Error;

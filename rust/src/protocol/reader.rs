@@ -1,0 +1,75 @@
+//! The reader that finds the frames of a reply on the line.
+
+use crate::{ffi, Error};
+use std::fmt::{self, Debug, Formatter};
+
+/// Collects the frames of the reply to a request from a noisy line, however its bytes are cut.
+///
+/// It begins anew at each start byte, keeps frames with the right sum and command and, where more than one
+/// is wanted, numbered 1, 2, 3 and so on; a frame numbered 1 begins the reply again.
+///
+/// It does not allocate before [`FrameReader::into_bytes`]. Bytes behind the last wanted frame are dropped.
+pub struct FrameReader {
+    reader: ffi::Reader,
+    /// What `new` could not answer.
+    refusal: Option<Error>,
+}
+
+impl FrameReader {
+    /// A reader for the reply to `request`, of `reply_size` bytes.
+    ///
+    /// A request of fewer than 3 bytes is refused with [`Error::RequestTooShort`], and then a reply of more
+    /// than 1,105 with [`Error::ReplyTooLong`]: such a reader answers the error to every push, is never
+    /// complete, lacks a frame and has no bytes.
+    pub fn new(request: &[u8], reply_size: usize) -> Self {
+        let (reader, opened) = ffi::Reader::new(request, reply_size);
+        Self {
+            reader,
+            refusal: opened.err(),
+        }
+    }
+
+    /// Why the reader was refused when it was made, if it was. `dalybms_lib` has no such question.
+    pub fn refusal(&self) -> Option<Error> {
+        self.refusal
+    }
+
+    /// Whether all frames of the reply are there.
+    pub fn is_complete(&self) -> bool {
+        self.refusal.is_none() && self.reader.is_complete()
+    }
+
+    /// How many bytes the next frame still needs; 0 once complete.
+    pub fn missing(&self) -> usize {
+        match self.refusal {
+            Some(_) => ffi::FRAME,
+            None => self.reader.missing(),
+        }
+    }
+
+    /// Takes bytes of the line.
+    ///
+    /// It answers [`Error::UnexpectedFrame`] where more than 512 bytes were discarded since the reader was
+    /// made. The bytes are taken all the same.
+    pub fn push(&mut self, data: &[u8]) -> Result<(), Error> {
+        match self.refusal {
+            Some(error) => Err(error),
+            None => self.reader.push(data),
+        }
+    }
+
+    /// The frames, one after the other, complete or not.
+    pub fn into_bytes(self) -> Vec<u8> {
+        self.reader.copy_out()
+    }
+}
+
+/// Without the bytes.
+impl Debug for FrameReader {
+    fn fmt(&self, f: &mut Formatter<'_>) -> fmt::Result {
+        f.debug_struct("FrameReader")
+            .field("counts", &self.reader.counts)
+            .field("refusal", &self.refusal)
+            .finish_non_exhaustive()
+    }
+}

@@ -8,7 +8,12 @@ use std::fmt::{self, Debug, Formatter};
 /// It begins anew at each start byte, keeps frames with the right sum and command and, where more than one
 /// is wanted, numbered 1, 2, 3 and so on; a frame numbered 1 begins the reply again.
 ///
-/// It does not allocate before [`FrameReader::into_bytes`]. Bytes behind the last wanted frame are dropped.
+/// It does not allocate before [`FrameReader::into_bytes`]. Bytes behind the last wanted frame are dropped;
+/// `dalybms_lib` keeps them where nobody gets at them. Who reads no more than [`FrameReader::missing`] bytes
+/// at a time pushes none of them.
+///
+/// Where the line sends a request back, that is a right frame of a one-frame reply, as in `dalybms_lib`: the
+/// address is not looked at. `examples/controller.rs` passes it over.
 pub struct FrameReader {
     reader: ffi::Reader,
     /// What `new` could not answer.

@@ -71,7 +71,7 @@ uint8_t daly_request(uint8_t command, bool enable, float soc_percent, uint8_t ou
  * with floats have what the Rust has, to the last bit; the `_counts` have the board's own whole numbers.
  */
 
-/* 90: volts, amperes (below 0 while discharging), percent; as counts, tenths of each */
+/* 90: volts, amperes (below 0 while charging, as the Rust has it), percent; as counts, tenths of each */
 struct daly_soc {
     uint8_t number;
     float total_voltage;

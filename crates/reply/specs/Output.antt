@@ -1,5 +1,5 @@
 -- Document 01, `readreply`: what it prints, of the bytes of its input alone. Definitions only.
-use Prim.Native.Nat.{ℕ, _+_, _/_}
+use Prim.Native.Nat.{ℕ}
 use mathlib.Core.Bool.{Bool, cond, _&&_}
 use mathlib.Core.List.{List, [], _∷_}
 use lib.Dec.{leb, eqb}

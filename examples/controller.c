@@ -92,10 +92,9 @@ static int collect(int line, const struct asked *asked, long until, struct daly_
             return failed("read");
         if (length <= 0)
             continue;
-        struct daly_told told = daly_push_into(reader->frames, reader->counts, chunk, (size_t)length);
-        reader->counts = told.counts;
-        if (told.said.status != DALY_DONE)
-            return refused(told.said.status);
+        struct daly_said said = daly_reader_push_in_place(reader, chunk, (size_t)length);
+        if (said.status != DALY_DONE)
+            return refused(said.status);
     }
     return DONE;
 }

@@ -37,7 +37,8 @@ enum {
     DALY_REQUEST_TOO_SHORT = 7, /* a reader's request has under 3 bytes */
     DALY_BAD_STATE = 8,         /* the reader's fields contradict one another */
     DALY_NO_ROOM = 9,           /* the lent places are too few */
-    DALY_UNKNOWN_COMMAND = 10   /* there is no request of this command */
+    DALY_UNKNOWN_COMMAND = 10,  /* there is no request of this command */
+    DALY_COUNT_TOO_LARGE = 11   /* the pack check has over 255 cells */
 };
 
 #define DALY_FRAME 13    /* bytes of a frame */
@@ -178,6 +179,19 @@ struct daly_list daly_cell_balance_state(const uint8_t *reply, size_t len, uint8
 /* 98: the faults, as positions in docs/FAULTS.md; needs room for all 48 */
 struct daly_list daly_error_codes(const uint8_t *reply, size_t len, uint8_t *out, size_t room);
 
+/* ---- The pack check */
+
+/*
+ * Cells in millivolts, at most 255, against the total in tenths of a volt: 0 or 11. `difference` is the sum of
+ * the cells less 100 times the total, in millivolts; `agrees` says whether it is from -50 to 50.
+ */
+struct daly_pack {
+    uint8_t number;
+    bool agrees;
+    int32_t difference;
+};
+struct daly_pack daly_pack_check(const uint16_t *cells, size_t n_cells, uint16_t total_voltage);
+
 /* ---- The reader of a reply's frames */
 
 /*
@@ -218,14 +232,20 @@ struct daly_said {
     size_t took;
 };
 
-/* A push into frames of yours: hand in the counts, and go on with those that come back. The quicker one. */
+/* The push to call: the reader is yours, and moves on where it lies. */
+struct daly_said daly_reader_push_in_place(struct daly_reader *reader, const uint8_t *chunk, size_t len);
+
+/* The same answer and the same reader afterwards, by way of the push by value, which copies it in and out. */
+struct daly_said daly_reader_push_lent(struct daly_reader *reader, const uint8_t *chunk, size_t len);
+
+/* The same where the frames lie apart from the counts: go on with the counts that come back. */
 struct daly_told {
     struct daly_said said;
     struct daly_counts counts;
 };
 struct daly_told daly_push_into(uint8_t frames[DALY_FRAMES], struct daly_counts counts, const uint8_t *chunk, size_t len);
 
-/* The same on a reader by value: go on with the one that comes back. */
+/* The same by value: go on with the reader that comes back. */
 struct daly_pushed {
     struct daly_said said;
     struct daly_reader reader;

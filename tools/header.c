@@ -1,23 +1,9 @@
-/* What include/daly.h declares, held to libdaly.a: sizes, places of fields, and an answer of every function.
+/* What include/daly.h declares, held to libdaly.a: an answer of every function. (Sizes: tools/test_layouts.)
  * Expected values are worked out by hand from document 01. Closes with `N passed, M failed`. */
 #include <stdio.h>
 #include <string.h>
 
 #include "daly.h"
-
-_Static_assert(sizeof(struct daly_counts) == 40, "counts");
-_Static_assert(offsetof(struct daly_counts, taken) == 4 && offsetof(struct daly_counts, wanted) == 16, "counts");
-_Static_assert(offsetof(struct daly_reader, frames) == 40 && sizeof(struct daly_reader) == 1152, "reader");
-_Static_assert(offsetof(struct daly_opened, reader) == 8 && sizeof(struct daly_opened) == 1160, "opened");
-_Static_assert(offsetof(struct daly_told, counts) == 16 && sizeof(struct daly_told) == 56, "told");
-_Static_assert(offsetof(struct daly_pushed, reader) == 16 && sizeof(struct daly_pushed) == 1168, "pushed");
-_Static_assert(sizeof(struct daly_list) == 16 && sizeof(struct daly_missing) == 16, "list, missing");
-_Static_assert(sizeof(struct daly_completed) == 2, "completed");
-_Static_assert(sizeof(struct daly_soc) == 16 && sizeof(struct daly_soc_counts) == 12, "90");
-_Static_assert(sizeof(struct daly_cell_voltage_range) == 20 && sizeof(struct daly_cell_voltage_range_counts) == 10, "91");
-_Static_assert(sizeof(struct daly_temperature_range) == 5, "92");
-_Static_assert(sizeof(struct daly_mosfet_status) == 12 && sizeof(struct daly_mosfet_status_counts) == 12, "93");
-_Static_assert(sizeof(struct daly_status) == 16 && offsetof(struct daly_status, cycles) == 14, "94");
 
 static int passed, failed;
 
@@ -130,6 +116,36 @@ static void lists(void)
     test(l.number == 0 && l.count == 2 && faults[0] == 17 && faults[1] == 16, "daly_error_codes: P10");
 }
 
+static void pack(void)
+{
+    const uint16_t cells[4] = {3262, 3262, 3262, 3264}, less[4] = {3262, 3262, 3262, 3263};
+    uint16_t many[256] = {0};
+    struct daly_pack p = daly_pack_check(cells, 4, 131);
+    test(p.number == 0 && p.agrees && p.difference == -50, "daly_pack_check: P14, 13,050");
+    p = daly_pack_check(less, 4, 131);
+    test(p.number == 0 && !p.agrees && p.difference == -51, "daly_pack_check: P14, 13,049");
+    p = daly_pack_check(many, 256, 0);
+    test(p.number == DALY_COUNT_TOO_LARGE && !p.agrees && p.difference == 0, "daly_pack_check: 256 cells");
+}
+
+typedef struct daly_said push(struct daly_reader *, const uint8_t *, size_t);
+
+/* Document 01's example, cut behind the noise; then a reader whose fields contradict one another. */
+static void lent(push *push_lent, struct daly_reader reader, const char *what)
+{
+    const uint8_t noise[2] = {0x00, 0xA5};
+    struct daly_said a = push_lent(&reader, noise, 2), b = push_lent(&reader, soc, 13);
+    const struct daly_counts *c = &reader.counts;
+    test(a.status == 0 && a.took == 2 && b.status == 0 && b.took == 13 && c->taken == 15 && c->discarded == 2 && c->cleared == 0 &&
+             c->collected == 1 && c->held == 0 && memcmp(reader.frames, soc, 13) == 0,
+         what);
+    reader.counts.held = 13;
+    struct daly_reader as_given;
+    memcpy(&as_given, &reader, sizeof reader);
+    a = push_lent(&reader, soc, 13);
+    test(a.status == DALY_BAD_STATE && a.took == 0 && memcmp(&as_given, &reader, offsetof(struct daly_reader, frames) + DALY_FRAMES) == 0, what);
+}
+
 static void reader(void)
 {
     uint8_t request[DALY_FRAME], out[DALY_FRAME];
@@ -140,6 +156,8 @@ static void reader(void)
     struct daly_opened o = daly_reader_new(request, 13, 13);
     test(o.number == 0 && o.reader.counts.command == 0x90 && o.reader.counts.wanted == 1, "daly_reader_new");
 
+    lent(daly_reader_push_in_place, o.reader, "daly_reader_push_in_place");
+    lent(daly_reader_push_lent, o.reader, "daly_reader_push_lent");
     struct daly_told t = daly_push_into(o.reader.frames, o.reader.counts, noise, 2);
     test(t.said.status == 0 && t.said.took == 2 && t.counts.discarded == 1 && t.counts.held == 1, "daly_push_into");
     o.reader.counts = t.counts;
@@ -163,6 +181,7 @@ int main(void)
     requests_and_frames();
     records();
     lists();
+    pack();
     reader();
     printf("%d passed, %d failed\n", passed, failed);
     return failed != 0;

@@ -10,6 +10,7 @@ mod numbered;
 mod numbers;
 mod one_frame;
 mod original;
+mod pack;
 mod port;
 mod random;
 mod reader;
@@ -72,6 +73,7 @@ fn run(options: &Options) -> Vec<bool> {
         &numbered::parts(),
         &balance::parts(),
         &faults::parts(),
+        pack::PARTS,
         &reader::parts(),
     ]
     .concat();

@@ -45,6 +45,7 @@ extern "C" {
         room: usize,
     ) -> ListTold;
     fn daly_error_codes(p: *const u8, len: usize, out: *mut u8, room: usize) -> ListTold;
+    fn daly_pack_check(cells: *const u16, len: usize, total_voltage: u16) -> PackTold;
     pub fn daly_cell_voltages_reply_size(n_cells: u8) -> usize;
     pub fn daly_cell_temperatures_reply_size(n_sensors: u8) -> usize;
 }
@@ -141,6 +142,11 @@ impl Port {
         // SAFETY: as in calc_crc; `out` has `room` places, alive and lent to nobody else.
         let told = unsafe { ask(reply.as_ptr(), reply.len(), n, out, room) };
         self.answered(Left { told, buffer })
+    }
+
+    pub fn pack_check(&mut self, cells: &[u16], total_voltage: u16) -> PackTold {
+        // SAFETY: as in calc_crc.
+        self.answered(unsafe { daly_pack_check(cells.as_ptr(), cells.len(), total_voltage) })
     }
 
     pub fn size(&mut self, ask: AskSize, n: u8) -> usize {

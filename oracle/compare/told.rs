@@ -210,6 +210,10 @@ told! {
         do4: Flag,
         cycles: u16,
     }
+    PackTold {
+        agrees: Flag,
+        difference: i32,
+    }
     ListTold {
         count: usize,
     }

@@ -24,6 +24,7 @@ use Rattle.daly.proofs.lists.daly_cell_millivolts.Reads as daly-cell-mi
 use Rattle.daly.proofs.lists.daly_cell_temperatures.Reads as daly-cell-temperatures
 use Rattle.daly.proofs.lists.daly_cell_balance_state.Reads as daly-cell-balance-state
 use Rattle.daly.proofs.lists.daly_error_codes.Reads as daly-error-codes
+use Rattle.daly.proofs.packs.daly_pack_check.Reads as daly-pack-check
 use Rattle.daly.proofs.readers.daly_reader_new.Reads as daly-reader-new
 use Rattle.daly.proofs.readers.daly_reader_push.Reads as daly-reader-push
 use Rattle.daly.proofs.readers.daly_push_into.Reads as daly-push-into
@@ -88,6 +89,9 @@ daly-cell-balance-state-decides κs a x y s t = tells-one
 
 daly-error-codes-decides : Decides daly-error-codes.Post (λ κs r s. both r (now (s .1 .0)))
 daly-error-codes-decides κs a x y s t = tells-one
+
+daly-pack-check-decides : Decides daly-pack-check.Post (λ κs r s. r)
+daly-pack-check-decides κs a x y s t = same
 
 daly-reader-new-decides : Decides daly-reader-new.Post (λ κs r s. r)
 daly-reader-new-decides κs a x y s t = same

@@ -1,3 +1,5 @@
 pub mod Asked
 pub mod Told
+pub mod Layouts
+pub mod Agreeing
 pub mod Decided

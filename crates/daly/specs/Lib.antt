@@ -1,3 +1,5 @@
 pub mod Requests
 pub mod Readings
 pub mod Lists
+pub mod Packs
+pub mod Lent

@@ -8,7 +8,6 @@ use super::sides::{difference, shown, Sides};
 use super::states::{waiting, HARMS, NEIGHBOURS};
 use super::told::*;
 use super::OF;
-use crate::random::Random;
 use crate::told::{CompletedTold, MissingTold, Told};
 use crate::trial::{Part, Trial};
 
@@ -75,14 +74,10 @@ fn beside(trial: &mut Trial) {
     }
 }
 
-fn three_ways(random: &mut Random) -> [Way; 3] {
-    [Way::ByValue, Way::Lent, Way::InChunks(chunk_size(random))]
-}
-
 /// Every question is answered 8, and every byte stays.
 fn compare_bad(trial: &mut Trial, reader: &Reader, chunk: &[u8]) {
     assert!(Model::of(reader).is_none(), "a good state");
-    for way in three_ways(&mut trial.random) {
+    for way in Way::all(chunk_size(&mut trial.random)) {
         let after = trial.port.push(way, reader, chunk);
         trial.check(
             (Said::REFUSED, reader.counts, None, None),
@@ -100,7 +95,7 @@ fn compare_bad(trial: &mut Trial, reader: &Reader, chunk: &[u8]) {
 }
 
 fn compare_good(trial: &mut Trial, reader: &Reader, chunk: &[u8]) {
-    for way in three_ways(&mut trial.random) {
+    for way in Way::all(chunk_size(&mut trial.random)) {
         let mut sides = Sides::given(reader).expect("a bad state");
         sides.push(trial, way, chunk);
     }

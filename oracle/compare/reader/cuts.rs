@@ -98,8 +98,7 @@ fn cuttings(trial: &mut Trial) {
             cuttings.push(in_any_way(trial, &chunks));
         }
         let size = chunk_size(&mut trial.random);
-        let whole = [Way::ByValue, Way::Lent, Way::InChunks(size)];
-        cuttings.extend(whole.map(|way| vec![(way, &stream[..])]));
+        cuttings.extend(Way::all(size).map(|way| vec![(way, &stream[..])]));
         compare(trial, asked, &stream, &cuttings);
     }
 }
@@ -111,7 +110,7 @@ fn in_two(trial: &mut Trial) {
         let mut stream = streams::mixed(&mut trial.random, asked);
         stream.truncate(80);
         trial.streams += 1;
-        let mut cuttings = vec![vec![(Way::Lent, &stream[..])]];
+        let mut cuttings = vec![vec![(Way::InPlace, &stream[..])]];
         for place in 0..=stream.len() {
             let (front, back) = stream.split_at(place);
             cuttings.push(in_any_way(trial, &[front, back]));
@@ -130,8 +129,8 @@ fn ways(trial: &mut Trial) {
         trial.streams += 1;
         let size = chunk_size(&mut trial.random);
         let by_value = trial.port.push(Way::ByValue, &reader, &stream);
-        for way in [Way::Lent, Way::InChunks(size)] {
-            let other = trial.port.push(way, &reader, &stream);
+        for way in &Way::all(size)[1..] {
+            let other = trial.port.push(*way, &reader, &stream);
             trial.check(
                 (by_value.said, by_value.reader.counts, None, None),
                 (

@@ -123,11 +123,8 @@ pub fn pushed(trial: &mut Trial, asked: Asked, chunks: &[&[u8]]) -> Option<Sides
 
 /// Any of the pushes, and any size of chunks.
 pub fn way(random: &mut Random) -> Way {
-    match random.below(5) {
-        0 | 1 => Way::ByValue,
-        2 | 3 => Way::Lent,
-        _ => Way::InChunks(chunk_size(random)),
-    }
+    let size = chunk_size(random);
+    Way::all(size)[random.below(5)]
 }
 
 pub fn chunk_size(random: &mut Random) -> usize {

@@ -59,12 +59,12 @@ fn zeros(trial: &mut Trial) {
         ..Counts::ZERO
     };
     for _ in 0..1_024 {
-        if !sides.push(trial, Way::Lent, &chunk) {
+        if !sides.push(trial, Way::Into, &chunk) {
             return;
         }
     }
     check(trial, &sides, 2, known);
-    if sides.push(trial, Way::Lent, &chunk) && sides.push(trial, Way::Lent, &SOC) {
+    if sides.push(trial, Way::Into, &chunk) && sides.push(trial, Way::Into, &SOC) {
         let complete = Counts {
             taken: 4_194_317,
             discarded: 4_194_304,
@@ -94,7 +94,7 @@ fn begun_again(trial: &mut Trial) {
     let middle = (1..3_304_000).map(|_| &pairs[7..1_307]);
     let last = [&pairs[7..1_300], &three];
     for chunk in first.chain(middle).chain(last) {
-        if !sides.push(trial, Way::Lent, chunk) {
+        if !sides.push(trial, Way::Into, chunk) {
             return;
         }
     }
@@ -144,7 +144,7 @@ fn one_chunk(trial: &mut Trial) {
         let after = trial.port.push(way, &new, &chunk);
         check_after(trial, &after, LENGTH, COMPLETE, &SOC);
     }
-    let after = trial.port.push(Way::Lent, &new, &chunk[..JUST_OVER]);
+    let after = trial.port.push(Way::Into, &new, &chunk[..JUST_OVER]);
     check_after(trial, &after, JUST_OVER, WRAPPED, &[]);
     let (all_but_one, last) = chunk.split_at(LENGTH - 1);
     let waiting = Counts {
@@ -153,9 +153,9 @@ fn one_chunk(trial: &mut Trial) {
         held: 12,
         ..COMPLETE
     };
-    let after = trial.port.push(Way::Lent, &new, all_but_one);
+    let after = trial.port.push(Way::Into, &new, all_but_one);
     check_after(trial, &after, LENGTH - 1, waiting, &SOC[..12]);
-    let after = trial.port.push(Way::Lent, &after.reader, last);
+    let after = trial.port.push(Way::Into, &after.reader, last);
     check_after(trial, &after, 1, COMPLETE, &SOC);
 }
 

@@ -9,6 +9,8 @@ extern "C" {
     fn daly_reader_new(request: *const u8, len: usize, reply_size: usize) -> Opened;
     fn daly_reader_push(reader: Reader, chunk: *const u8, len: usize) -> Pushed;
     fn daly_push_into(frames: *mut u8, counts: Counts, chunk: *const u8, len: usize) -> PushedInto;
+    fn daly_reader_push_lent(reader: *mut Reader, chunk: *const u8, len: usize) -> Said;
+    fn daly_reader_push_in_place(reader: *mut Reader, chunk: *const u8, len: usize) -> Said;
     fn daly_push_in_chunks(
         frames: *mut u8,
         counts: Counts,
@@ -21,19 +23,68 @@ extern "C" {
     fn daly_reader_copy_out(reader: Reader, out: *mut u8, room: usize) -> ListTold;
 }
 
-/// The three pushes of the library.
+/// The pushes of the library.
 #[derive(Clone, Copy, Debug)]
 pub enum Way {
     ByValue,
     /// On frames lent by the caller.
-    Lent,
+    Into,
     /// So too, in chunks of this size.
     InChunks(usize),
+    /// On a reader lent by the caller: by way of the push by value.
+    Lent,
+    /// So too, in place.
+    InPlace,
+}
+
+impl Way {
+    /// All of them, with chunks of this size.
+    pub fn all(size: usize) -> [Self; 5] {
+        [
+            Self::ByValue,
+            Self::Into,
+            Self::InChunks(size),
+            Self::Lent,
+            Self::InPlace,
+        ]
+    }
+}
+
+/// A push on a lent reader.
+type AskLent = unsafe extern "C" fn(*mut Reader, *const u8, usize) -> Said;
+
+/// A reader with a fence on either side.
+#[repr(C)]
+struct Fenced {
+    before: [u8; START],
+    reader: Reader,
+    behind: [u8; FENCE.len() - START],
+}
+
+const START: usize = FENCE.len() / 2;
+
+/// Lends a copy of the reader.
+fn lent(reader: &Reader, ask: AskLent, chunk: &[u8]) -> After {
+    let mut fenced = Fenced {
+        before: FENCE[..START].try_into().expect("one half"),
+        reader: *reader,
+        behind: FENCE[START..].try_into().expect("the other"),
+    };
+    let at = (&raw mut fenced).cast::<u8>().wrapping_add(START).cast();
+    // SAFETY: `at` is the reader, alive and lent to nobody else, and `chunk` a live slice.
+    let said = unsafe { ask(at, chunk.as_ptr(), chunk.len()) };
+    let mut fence = FENCE;
+    fence[..START].copy_from_slice(&fenced.before);
+    fence[START..].copy_from_slice(&fenced.behind);
+    After {
+        said,
+        reader: fenced.reader,
+        fence,
+    }
 }
 
 /// Lends a copy of the reader's frames, with a fence on either side.
-fn lent(reader: &Reader, ask: impl FnOnce(*mut u8) -> PushedInto) -> After {
-    const START: usize = FENCE.len() / 2;
+fn frames_lent(reader: &Reader, ask: impl FnOnce(*mut u8) -> PushedInto) -> After {
     let mut buffer = [0; LONGEST + FENCE.len()];
     buffer[..START].copy_from_slice(&FENCE[..START]);
     buffer[START..START + LONGEST].copy_from_slice(&reader.frames);
@@ -74,14 +125,16 @@ impl Port {
                     fence,
                 }
             }
-            Way::Lent => lent(reader, |frames| {
+            Way::Into => frames_lent(reader, |frames| {
                 // SAFETY: as in open; `frames` are 1,105 places, alive and lent to nobody else.
                 unsafe { daly_push_into(frames, reader.counts, bytes, length) }
             }),
-            Way::InChunks(size) => lent(reader, |frames| {
-                // SAFETY: as of Way::Lent.
+            Way::InChunks(size) => frames_lent(reader, |frames| {
+                // SAFETY: as of Way::Into.
                 unsafe { daly_push_in_chunks(frames, reader.counts, bytes, length, size) }
             }),
+            Way::Lent => lent(reader, daly_reader_push_lent, chunk),
+            Way::InPlace => lent(reader, daly_reader_push_in_place, chunk),
         };
         self.answered(after)
     }

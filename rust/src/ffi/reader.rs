@@ -1,12 +1,12 @@
 //! The calls of the reader.
 
-use super::told::{Completed, Counts, List, Missing, Opened, Reader, Told};
+use super::told::{Completed, List, Missing, Opened, Reader, Said};
 use super::FRAMES;
 use crate::Error;
 
 extern "C" {
     fn daly_reader_new(request: *const u8, len: usize, reply_size: usize) -> Opened;
-    fn daly_push_into(frames: *mut u8, counts: Counts, chunk: *const u8, len: usize) -> Told;
+    fn daly_reader_push_in_place(reader: *mut Reader, chunk: *const u8, len: usize) -> Said;
     fn daly_reader_missing(reader: Reader) -> Missing;
     fn daly_reader_is_complete(reader: Reader) -> Completed;
     fn daly_reader_copy_out(reader: Reader, out: *mut u8, room: usize) -> List;
@@ -21,11 +21,9 @@ impl Reader {
     }
 
     pub fn push(&mut self, chunk: &[u8]) -> Result<(), Error> {
-        let frames = self.frames.as_mut_ptr();
-        // SAFETY: as in `super::check`; `frames` are 1,105 bytes, alive and lent to nobody else.
-        let told = unsafe { daly_push_into(frames, self.counts, chunk.as_ptr(), chunk.len()) };
-        self.counts = told.counts;
-        Error::check(told.said.status)
+        // SAFETY: as in `super::check`; the reader is alive and lent to nobody else.
+        let said = unsafe { daly_reader_push_in_place(self, chunk.as_ptr(), chunk.len()) };
+        Error::check(said.status)
     }
 
     /// 0 of a bad state.

@@ -45,8 +45,14 @@ pub struct Status {
     pub temperature_sensors: u8,
     pub charger_running: u8,
     pub load_running: u8,
-    /// di1 to di4, then do1 to do4.
-    pub states: [u8; 8],
+    pub di1: u8,
+    pub di2: u8,
+    pub di3: u8,
+    pub di4: u8,
+    pub do1: u8,
+    pub do2: u8,
+    pub do3: u8,
+    pub do4: u8,
     pub cycles: u16,
 }
 
@@ -90,12 +96,6 @@ pub struct Said {
 }
 
 #[repr(C)]
-pub struct Told {
-    pub said: Said,
-    pub counts: Counts,
-}
-
-#[repr(C)]
 pub struct Missing {
     pub number: u8,
     pub missing: usize,
@@ -106,10 +106,3 @@ pub struct Completed {
     pub number: u8,
     pub complete: u8,
 }
-
-const _: () = assert!(size_of::<Counts>() == 40 && size_of::<Reader>() == 1152);
-const _: () = assert!(size_of::<Opened>() == 1160 && size_of::<Told>() == 56);
-const _: () = assert!(size_of::<List>() == 16 && size_of::<Missing>() == 16);
-const _: () = assert!(size_of::<Completed>() == 2 && size_of::<Soc>() == 16);
-const _: () = assert!(size_of::<CellVoltageRange>() == 20 && size_of::<TemperatureRange>() == 5);
-const _: () = assert!(size_of::<MosfetStatus>() == 12 && size_of::<Status>() == 16);

@@ -231,21 +231,20 @@ impl Status {
     /// The record in a reply.
     pub fn decode(rx_buffer: &[u8]) -> Result<Self, Error> {
         let told = ffi::status(rx_buffer)?;
-        let [di1, di2, di3, di4, do1, do2, do3, do4] = told.states.map(|flag| flag != 0);
         Ok(Self {
             cells: told.cells,
             temperature_sensors: told.temperature_sensors,
             charger_running: told.charger_running != 0,
             load_running: told.load_running != 0,
             states: IOState {
-                di1,
-                di2,
-                di3,
-                di4,
-                do1,
-                do2,
-                do3,
-                do4,
+                di1: told.di1 != 0,
+                di2: told.di2 != 0,
+                di3: told.di3 != 0,
+                di4: told.di4 != 0,
+                do1: told.do1 != 0,
+                do2: told.do2 != 0,
+                do3: told.do3 != 0,
+                do4: told.do4 != 0,
             },
             cycles: told.cycles,
         })

@@ -1,0 +1,92 @@
+-- How the structs that C shares with the library lie in memory, by the machine that the proofs are about: the size, and where each field
+-- begins, in the order of declaration. `tools/test_layouts` holds these lines to C's and Rust's. Assumes nothing.
+use Prim.Native.Nat.{ℕ, zero, suc}
+use mathlib.Core.Path.{_≡_, refl}
+use mathlib.Core.List.{List, [], _∷_}
+use mathlib.Core.Option.{Option, some, none}
+use mir.Syntax.{Ty}
+use prog.Memory.{size, fieldOf}
+use Rattle.reader.proofs.Counts.Laws as Counts
+use Rattle.reader.proofs.FrameReader.Laws as FrameReader
+use Rattle.reader.proofs.Opened.Laws as Opened
+use Rattle.reader.proofs.Said.Laws as Said
+use Rattle.reader.proofs.Told.Laws as Told
+use Rattle.reader.proofs.Pushed.Laws as Pushed
+use Rattle.reader.proofs.Missing.Laws as Missing
+use Rattle.reader.proofs.Completed.Laws as Completed
+use Rattle.daly.proofs.lists.ListTold.Laws as ListTold
+use Rattle.daly.proofs.packs.PackTold.Laws as PackTold
+use Rattle.daly.proofs.readings.SocTold.Laws as SocTold
+use Rattle.daly.proofs.readings.SocCountsTold.Laws as SocCountsTold
+use Rattle.daly.proofs.readings.CellVoltageRangeTold.Laws as CellVoltageRangeTold
+use Rattle.daly.proofs.readings.CellVoltageRangeCountsTold.Laws as CellVoltageRangeCountsTold
+use Rattle.daly.proofs.readings.TemperatureRangeTold.Laws as TemperatureRangeTold
+use Rattle.daly.proofs.readings.MosfetStatusTold.Laws as MosfetStatusTold
+use Rattle.daly.proofs.readings.MosfetStatusCountsTold.Laws as MosfetStatusCountsTold
+use Rattle.daly.proofs.readings.StatusTold.Laws as StatusTold
+
+-- where the fields from k on begin, at most `most` of them
+abbrev before : Option (Ty × ℕ) → List ℕ → List ℕ
+before none rest = []
+before (some (field, at)) rest = at ∷ rest
+
+abbrev begins : Ty → ℕ → ℕ → List ℕ
+begins τ zero k = []
+begins τ (suc most) k = before (fieldOf τ k) (begins τ most (suc k))
+
+abbrev layout : Ty → List ℕ
+layout τ = size τ ∷ begins τ 16 0
+
+counts : layout Counts.mir ≡ 40 ∷ 0 ∷ 1 ∷ 4 ∷ 8 ∷ 12 ∷ 16 ∷ 24 ∷ 32 ∷ []
+counts = refl
+
+reader : layout FrameReader.mir ≡ 1152 ∷ 0 ∷ 40 ∷ []
+reader = refl
+
+opened : layout Opened.mir ≡ 1160 ∷ 0 ∷ 8 ∷ []
+opened = refl
+
+said : layout Said.mir ≡ 16 ∷ 0 ∷ 8 ∷ []
+said = refl
+
+told : layout Told.mir ≡ 56 ∷ 0 ∷ 16 ∷ []
+told = refl
+
+pushed : layout Pushed.mir ≡ 1168 ∷ 0 ∷ 16 ∷ []
+pushed = refl
+
+missing : layout Missing.mir ≡ 16 ∷ 0 ∷ 8 ∷ []
+missing = refl
+
+completed : layout Completed.mir ≡ 2 ∷ 0 ∷ 1 ∷ []
+completed = refl
+
+list : layout ListTold.mir ≡ 16 ∷ 0 ∷ 8 ∷ []
+list = refl
+
+pack : layout PackTold.mir ≡ 8 ∷ 0 ∷ 1 ∷ 4 ∷ []
+pack = refl
+
+soc : layout SocTold.mir ≡ 16 ∷ 0 ∷ 4 ∷ 8 ∷ 12 ∷ []
+soc = refl
+
+soc-counts : layout SocCountsTold.mir ≡ 12 ∷ 0 ∷ 2 ∷ 4 ∷ 8 ∷ []
+soc-counts = refl
+
+cell-voltage-range : layout CellVoltageRangeTold.mir ≡ 20 ∷ 0 ∷ 4 ∷ 8 ∷ 12 ∷ 16 ∷ []
+cell-voltage-range = refl
+
+cell-voltage-range-counts : layout CellVoltageRangeCountsTold.mir ≡ 10 ∷ 0 ∷ 2 ∷ 4 ∷ 6 ∷ 8 ∷ []
+cell-voltage-range-counts = refl
+
+temperature-range : layout TemperatureRangeTold.mir ≡ 5 ∷ 0 ∷ 1 ∷ 2 ∷ 3 ∷ 4 ∷ []
+temperature-range = refl
+
+mosfet-status : layout MosfetStatusTold.mir ≡ 12 ∷ 0 ∷ 1 ∷ 2 ∷ 3 ∷ 4 ∷ 8 ∷ []
+mosfet-status = refl
+
+mosfet-status-counts : layout MosfetStatusCountsTold.mir ≡ 12 ∷ 0 ∷ 1 ∷ 2 ∷ 3 ∷ 4 ∷ 8 ∷ []
+mosfet-status-counts = refl
+
+status : layout StatusTold.mir ≡ 16 ∷ 0 ∷ 1 ∷ 2 ∷ 3 ∷ 4 ∷ 5 ∷ 6 ∷ 7 ∷ 8 ∷ 9 ∷ 10 ∷ 11 ∷ 12 ∷ 14 ∷ []
+status = refl

@@ -1,0 +1,27 @@
+-- The push on a reader lent by the caller. Definitions only.
+use Prim.Native.Nat.{ℕ}
+use mathlib.Core.Path.{_≡_}
+use mathlib.Core.Bool.{true}
+use mathlib.Core.List.{List}
+use Rattle.rules.specs.Reader.{bad}
+use Rattle.reader.specs.View.{view, Answered}
+use Rattle.reader.specs.declared.FrameReader.{FrameReader}
+use Rattle.reader.specs.declared.Said.{Said}
+
+-- "push also exists as the Rust has it, on a reader lent by the caller, with the same meaning": what it says, and the reader afterwards
+abbrev pub AnsweredLent : FrameReader → List ℕ → Said → FrameReader → Type 0
+AnsweredLent before chunk said after =
+    Answered (before .frames) (before .counts) chunk (said .status) (said .took) (after .counts) (after .frames)
+
+-- two pushes of one chunk into one lent reader, each by that statement, say the same and leave the same reader: its numbers, its
+-- collected frames and its held bytes; and where they refuse it, each leaves the reader as it was, to the last place
+pub record Agree (before : FrameReader) (x : Said) (a : FrameReader) (y : Said) (b : FrameReader) : Type 0 where
+  pub said : x ≡ y
+  pub counts : a .counts ≡ b .counts
+  pub seen : view (a .counts) (a .frames) ≡ view (b .counts) (b .frames)
+  pub refused : bad (view (before .counts) (before .frames)) ≡ true → (a ≡ before) × (b ≡ before)
+
+abbrev pub PushesAgree : Type 0
+PushesAgree =
+    (before : FrameReader) (chunk : List ℕ) (x y : Said) (a b : FrameReader)
+    → AnsweredLent before chunk x a → AnsweredLent before chunk y b → Agree before x a y b

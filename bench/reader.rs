@@ -51,7 +51,9 @@ pub struct Pushed {
 }
 
 extern "C" {
-    fn daly_reader_push(reader: Reader, p: *const u8, len: usize) -> Pushed;
+    fn daly_reader_push(reader: *mut Reader, p: *const u8, len: usize) -> Said;
+    fn daly_push_by_value(reader: Reader, p: *const u8, len: usize) -> Pushed;
+    fn daly_push_lent(reader: *mut Reader, p: *const u8, len: usize) -> Said;
     fn daly_push_into(frames: *mut [u8; ROOM], counts: Counts, p: *const u8, len: usize) -> Told;
     fn daly_push_in_chunks(
         frames: *mut [u8; ROOM],
@@ -60,6 +62,18 @@ extern "C" {
         len: usize,
         size: usize,
     ) -> Told;
+}
+
+/// A push on a lent reader.
+type Push = unsafe extern "C" fn(*mut Reader, *const u8, usize) -> Said;
+
+impl Default for Reader {
+    fn default() -> Self {
+        Self {
+            counts: Counts::default(),
+            frames: [0; ROOM],
+        }
+    }
 }
 
 /// A stream and how it is read: a new reader begins with each `reply` bytes.
@@ -121,16 +135,41 @@ impl Case {
         }
     }
 
-    fn value(&self, size: usize) {
+    /// A reader that has taken nothing; of its frames it has what they held.
+    fn begin(&self, reader: &mut Reader) {
+        reader.counts = self.fresh();
+    }
+
+    /// On a reader lent to the port, called through C for each chunk.
+    fn pointed(&self, size: usize, push: Push) {
+        let mut reader = Reader::default();
         for reply in self.stream.chunks(self.reply) {
-            let mut reader = Reader {
-                counts: self.fresh(),
-                frames: [0; ROOM],
-            };
+            self.begin(&mut reader);
+            for chunk in reply.chunks(size) {
+                let (p, len) = (black_box(chunk.as_ptr()), chunk.len());
+                // SAFETY: the reader is alive and lent to nobody else, and `chunk` is `len` bytes.
+                black_box(unsafe { push(&mut reader, p, len) }.status);
+            }
+            black_box(&reader);
+        }
+    }
+
+    fn lent(&self, size: usize) {
+        self.pointed(size, daly_push_lent);
+    }
+
+    fn in_place(&self, size: usize) {
+        self.pointed(size, daly_reader_push);
+    }
+
+    fn value(&self, size: usize) {
+        let mut reader = Reader::default();
+        for reply in self.stream.chunks(self.reply) {
+            self.begin(&mut reader);
             for chunk in reply.chunks(size) {
                 let (p, len) = (black_box(chunk.as_ptr()), chunk.len());
                 // SAFETY: `chunk` is `len` bytes.
-                reader = unsafe { daly_reader_push(reader, p, len) }.reader;
+                reader = unsafe { daly_push_by_value(reader, p, len) }.reader;
             }
             black_box(&reader);
         }
@@ -223,6 +262,7 @@ pub fn one(words: &[String]) -> Option<()> {
         "rust" => Case::rust,
         "in chunks" => Case::in_chunks,
         "into" => Case::into,
+        "in place" => Case::in_place,
         _ => return None,
     };
     counted(&case, form, size.parse().ok()?);
@@ -237,25 +277,40 @@ pub fn names() {
     }
 }
 
+/// The forms beside the Rust's, in the table's order.
+const FORMS: [(&str, fn(&Case, usize)); 5] = [
+    ("in place", Case::in_place),
+    ("lent", Case::lent),
+    ("by value", Case::value),
+    ("into", Case::into),
+    ("in chunks", Case::in_chunks),
+];
+
+fn row(case: &Case, size: usize) {
+    let forms: Vec<fn(&Case, usize)> = [Case::rust as fn(&Case, usize)]
+        .into_iter()
+        .chain(FORMS.map(|(_, form)| form))
+        .collect();
+    let ns = case.timed(size, &forms);
+    print!("{:<22} {size:>8} {:>9.2}", case.name, ns[0]);
+    for ours in &ns[1..] {
+        print!(" {:>9.2}", ours / ns[0]);
+    }
+    println!();
+}
+
 pub fn table() {
-    println!(
-        "{:<22} {:>6} {:>9} {:>9} {:>9} {:>9}",
-        "reader: ratio to Rust", "chunk", "Rust ns/B", "in chunks", "into", "by value"
-    );
-    let forms = [Case::rust, Case::in_chunks, Case::into, Case::value];
-    for case in cases(STREAM) {
+    print!("{:<22} {:>8} {:>9}", "reader: ratio to Rust", "chunk", "Rust ns/B");
+    for (name, _) in FORMS {
+        print!(" {name:>9}");
+    }
+    println!();
+    let long = cases(MIB);
+    for (case, long) in cases(STREAM).iter().zip(&long) {
         for size in [1, 13, 64, ROOM, 4 * KIB] {
-            let ns = case.timed(size, &forms);
-            let ratio = |k: usize| ns[k] / ns[0];
-            println!(
-                "{:<22} {size:>6} {:>9.2} {:>9.2} {:>9.2} {:>9.2}",
-                case.name,
-                ns[0],
-                ratio(1),
-                ratio(2),
-                ratio(3)
-            );
+            row(case, size);
         }
+        row(long, MIB);
     }
 }
 

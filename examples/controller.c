@@ -92,7 +92,7 @@ static int collect(int line, const struct asked *asked, long until, struct daly_
             return failed("read");
         if (length <= 0)
             continue;
-        struct daly_said said = daly_reader_push_in_place(reader, chunk, (size_t)length);
+        struct daly_said said = daly_reader_push(reader, chunk, (size_t)length);
         if (said.status != DALY_DONE)
             return refused(said.status);
     }

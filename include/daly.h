@@ -223,7 +223,7 @@ struct daly_opened {
 struct daly_opened daly_reader_new(const uint8_t *request, size_t len, size_t reply_size);
 
 /*
- * What a push says: 0; 2 where more than 512 bytes were ever discarded, with the chunk taken all the same;
+ * A push into your reader, which moves on where it lies. It says 0; 2 where more than 512 bytes were ever discarded, with the chunk taken all the same;
  * 8 where the reader's fields contradict one another, and then it stays as it was. `took` is how many bytes
  * of the chunk were taken: a complete reader takes none.
  */
@@ -232,25 +232,7 @@ struct daly_said {
     size_t took;
 };
 
-/* The push to call: the reader is yours, and moves on where it lies. */
-struct daly_said daly_reader_push_in_place(struct daly_reader *reader, const uint8_t *chunk, size_t len);
-
-/* The same answer and the same reader afterwards, by way of the push by value, which copies it in and out. */
-struct daly_said daly_reader_push_lent(struct daly_reader *reader, const uint8_t *chunk, size_t len);
-
-/* The same where the frames lie apart from the counts: go on with the counts that come back. */
-struct daly_told {
-    struct daly_said said;
-    struct daly_counts counts;
-};
-struct daly_told daly_push_into(uint8_t frames[DALY_FRAMES], struct daly_counts counts, const uint8_t *chunk, size_t len);
-
-/* The same by value: go on with the reader that comes back. */
-struct daly_pushed {
-    struct daly_said said;
-    struct daly_reader reader;
-};
-struct daly_pushed daly_reader_push(struct daly_reader reader, const uint8_t *chunk, size_t len);
+struct daly_said daly_reader_push(struct daly_reader *reader, const uint8_t *chunk, size_t len);
 
 /* How many bytes the next frame still needs, 0 when complete: 0 or 8. */
 struct daly_missing {

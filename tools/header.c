@@ -128,52 +128,45 @@ static void pack(void)
     test(p.number == DALY_COUNT_TOO_LARGE && !p.agrees && p.difference == 0, "daly_pack_check: 256 cells");
 }
 
-typedef struct daly_said push(struct daly_reader *, const uint8_t *, size_t);
-
 /* Document 01's example, cut behind the noise; then a reader whose fields contradict one another. */
-static void lent(push *push_lent, struct daly_reader reader, const char *what)
+static struct daly_reader pushed(struct daly_reader reader)
 {
     const uint8_t noise[2] = {0x00, 0xA5};
-    struct daly_said a = push_lent(&reader, noise, 2), b = push_lent(&reader, soc, 13);
+    struct daly_said said = daly_reader_push(&reader, noise, 2);
+    struct daly_missing m = daly_reader_missing(reader);
+    test(said.status == 0 && said.took == 2 && reader.counts.discarded == 1 && reader.counts.held == 1, "daly_reader_push: noise and a start");
+    test(m.number == 0 && m.missing == 12, "daly_reader_missing");
+
+    said = daly_reader_push(&reader, soc, 13);
     const struct daly_counts *c = &reader.counts;
-    test(a.status == 0 && a.took == 2 && b.status == 0 && b.took == 13 && c->taken == 15 && c->discarded == 2 && c->cleared == 0 &&
-             c->collected == 1 && c->held == 0 && memcmp(reader.frames, soc, 13) == 0,
-         what);
-    reader.counts.held = 13;
-    struct daly_reader as_given;
-    memcpy(&as_given, &reader, sizeof reader);
-    a = push_lent(&reader, soc, 13);
-    test(a.status == DALY_BAD_STATE && a.took == 0 && memcmp(&as_given, &reader, offsetof(struct daly_reader, frames) + DALY_FRAMES) == 0, what);
+    test(said.status == 0 && said.took == 13 && c->taken == 15 && c->discarded == 2 && c->cleared == 0 && c->collected == 1 && c->held == 0 &&
+             memcmp(reader.frames, soc, 13) == 0,
+         "daly_reader_push: document 01's example");
+
+    struct daly_reader bad = reader;
+    bad.counts.held = 13;
+    said = daly_reader_push(&bad, soc, 13);
+    test(said.status == DALY_BAD_STATE && said.took == 0 && bad.counts.held == 13 && bad.counts.taken == 15 && memcmp(bad.frames, reader.frames, DALY_FRAMES) == 0,
+         "daly_reader_push: a bad state");
+    test(daly_reader_missing(bad).number == DALY_BAD_STATE, "daly_reader_missing: a bad state");
+    return reader;
 }
 
 static void reader(void)
 {
     uint8_t request[DALY_FRAME], out[DALY_FRAME];
-    const uint8_t noise[2] = {0x00, 0xA5};
     daly_request(0x90, false, 0, request);
     test(daly_reader_new(request, 2, 13).number == DALY_REQUEST_TOO_SHORT, "daly_reader_new: a short request");
     test(daly_reader_new(request, 13, 1106).number == DALY_REPLY_TOO_LONG, "daly_reader_new: a long reply");
     struct daly_opened o = daly_reader_new(request, 13, 13);
     test(o.number == 0 && o.reader.counts.command == 0x90 && o.reader.counts.wanted == 1, "daly_reader_new");
 
-    lent(daly_reader_push_in_place, o.reader, "daly_reader_push_in_place");
-    lent(daly_reader_push_lent, o.reader, "daly_reader_push_lent");
-    struct daly_told t = daly_push_into(o.reader.frames, o.reader.counts, noise, 2);
-    test(t.said.status == 0 && t.said.took == 2 && t.counts.discarded == 1 && t.counts.held == 1, "daly_push_into");
-    o.reader.counts = t.counts;
-    struct daly_missing m = daly_reader_missing(o.reader);
-    test(m.number == 0 && m.missing == 12, "daly_reader_missing");
-    struct daly_pushed p = daly_reader_push(o.reader, soc, 13);
-    const struct daly_counts *c = &p.reader.counts;
-    test(p.said.status == 0 && p.said.took == 13 && c->taken == 15 && c->discarded == 2 && c->cleared == 0 && c->collected == 1 && c->held == 0,
-         "daly_reader_push: document 01's example");
-    struct daly_completed d = daly_reader_is_complete(p.reader);
+    struct daly_reader r = pushed(o.reader);
+    struct daly_completed d = daly_reader_is_complete(r);
     test(d.number == 0 && d.complete, "daly_reader_is_complete");
-    struct daly_list l = daly_reader_copy_out(p.reader, out, 13);
+    struct daly_list l = daly_reader_copy_out(r, out, 13);
     test(l.number == 0 && l.count == 13 && memcmp(out, soc, 13) == 0, "daly_reader_copy_out");
-    test(daly_reader_copy_out(p.reader, out, 12).number == DALY_NO_ROOM, "daly_reader_copy_out: no room");
-    p.reader.counts.held = 13;
-    test(daly_reader_missing(p.reader).number == DALY_BAD_STATE, "daly_reader_missing: a bad state");
+    test(daly_reader_copy_out(r, out, 12).number == DALY_NO_ROOM, "daly_reader_copy_out: no room");
 }
 
 int main(void)

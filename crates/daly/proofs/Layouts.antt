@@ -10,8 +10,6 @@ use Rattle.reader.proofs.Counts.Laws as Counts
 use Rattle.reader.proofs.FrameReader.Laws as FrameReader
 use Rattle.reader.proofs.Opened.Laws as Opened
 use Rattle.reader.proofs.Said.Laws as Said
-use Rattle.reader.proofs.Told.Laws as Told
-use Rattle.reader.proofs.Pushed.Laws as Pushed
 use Rattle.reader.proofs.Missing.Laws as Missing
 use Rattle.reader.proofs.Completed.Laws as Completed
 use Rattle.daly.proofs.lists.ListTold.Laws as ListTold
@@ -48,12 +46,6 @@ opened = refl
 
 said : layout Said.mir ≡ 16 ∷ 0 ∷ 8 ∷ []
 said = refl
-
-told : layout Told.mir ≡ 56 ∷ 0 ∷ 16 ∷ []
-told = refl
-
-pushed : layout Pushed.mir ≡ 1168 ∷ 0 ∷ 16 ∷ []
-pushed = refl
 
 missing : layout Missing.mir ≡ 16 ∷ 0 ∷ 8 ∷ []
 missing = refl

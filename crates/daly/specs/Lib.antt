@@ -2,4 +2,3 @@ pub mod Requests
 pub mod Readings
 pub mod Lists
 pub mod Packs
-pub mod Lent

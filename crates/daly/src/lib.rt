@@ -4,7 +4,6 @@ ghost use Rattle.frame.specs.Refusals.{checkNumber};
 ghost use Rattle.frame.specs.Checks.{sumOf, frameCheck, partCheck};
 ghost use Rattle.daly.specs.Requests.{Requests};
 
-mod lent;
 mod lists;
 mod packs;
 mod readers;

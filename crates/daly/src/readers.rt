@@ -1,17 +1,17 @@
-// The reader, for C: by value, and its core on the caller's memory. A `&mut [u8; 1105]` is a pointer.
+// The reader, for C: it is pushed into where the caller has it, and asked by value. A `&mut FrameReader` is a pointer.
 ghost use mathlib.Core.Path.{_≡_};
-ghost use Rattle.reader.specs.View.{view, Answered};
+ghost use Rattle.reader.specs.View.{view};
+ghost use Rattle.reader.specs.Lent.{AnsweredLent};
 ghost use Rattle.reader.specs.Told.{opened, missingTold, completeTold};
 ghost use Rattle.daly.specs.Lists.{TellsCollected};
 use crate::lists::ListTold;
 use crate::lists::told;
 use reader::Completed;
-use reader::Counts;
 use reader::FrameReader;
 use reader::Missing;
 use reader::Opened;
-use reader::Pushed;
-use reader::Told;
+use reader::Said;
+use reader::push_into;
 
 #[no_mangle]
 pub extern "C" fn daly_reader_new(request: &[u8], reply_size: usize) -> Opened
@@ -20,19 +20,14 @@ pub extern "C" fn daly_reader_new(request: &[u8], reply_size: usize) -> Opened
     FrameReader::new(request, reply_size)
 }
 
+// A push on a reader that the caller lends, in place: its frames are lent on, and no byte of them is copied that is not collected or held.
 #[no_mangle]
-pub extern "C" fn daly_reader_push(reader: FrameReader, chunk: &[u8]) -> Pushed
-    ensures { λ r. ⌜ Answered (reader .frames) (reader .counts) (now (chunk .entry)) (r .said .status) (r .said .took) (r .reader .counts) (r .reader .frames) ⌝ }
+pub extern "C" fn daly_reader_push(reader: &mut FrameReader, chunk: &[u8]) -> Said
+    ensures { λ r. ⌜ AnsweredLent (now (reader .entry)) (now (chunk .entry)) r (now (reader .exit)) ⌝ }
 {
-    reader.push(chunk)
-}
-
-// The reader's frames stay with the caller, and its numbers go in and come back by value.
-#[no_mangle]
-pub extern "C" fn daly_push_into(frames: &mut [u8; 1105], counts: Counts, chunk: &[u8]) -> Told
-    ensures { λ r. ⌜ Answered (now (frames .entry)) counts (now (chunk .entry)) (r .said .status) (r .said .took) (r .counts) (now (frames .exit)) ⌝ }
-{
-    reader::push_into(frames, counts, chunk)
+    let t = push_into(&mut reader.frames, reader.counts, chunk);
+    reader.counts = t.counts;
+    t.said
 }
 
 #[no_mangle]

@@ -7,4 +7,5 @@ pub mod Refusing
 pub mod Answer
 pub mod Asking
 pub mod Promise
+pub mod Agreeing
 pub mod Decided

@@ -3,3 +3,4 @@ pub mod View
 pub mod Told
 pub mod Cuts
 pub mod Steps
+pub mod Lent

@@ -1,4 +1,4 @@
-//! The port's reader, as the static library exports it.
+//! The port's reader, as the static libraries export it: `daly`, and `pushes` and `chunks` for the other forms of the push.
 
 use super::told::*;
 use crate::frames::LONGEST;
@@ -7,10 +7,10 @@ use crate::told::{CompletedTold, Left, ListTold, MissingTold};
 
 extern "C" {
     fn daly_reader_new(request: *const u8, len: usize, reply_size: usize) -> Opened;
-    fn daly_reader_push(reader: Reader, chunk: *const u8, len: usize) -> Pushed;
+    fn daly_reader_push(reader: *mut Reader, chunk: *const u8, len: usize) -> Said;
+    fn daly_push_by_value(reader: Reader, chunk: *const u8, len: usize) -> Pushed;
     fn daly_push_into(frames: *mut u8, counts: Counts, chunk: *const u8, len: usize) -> PushedInto;
-    fn daly_reader_push_lent(reader: *mut Reader, chunk: *const u8, len: usize) -> Said;
-    fn daly_reader_push_in_place(reader: *mut Reader, chunk: *const u8, len: usize) -> Said;
+    fn daly_push_lent(reader: *mut Reader, chunk: *const u8, len: usize) -> Said;
     fn daly_push_in_chunks(
         frames: *mut u8,
         counts: Counts,
@@ -23,7 +23,7 @@ extern "C" {
     fn daly_reader_copy_out(reader: Reader, out: *mut u8, room: usize) -> ListTold;
 }
 
-/// The pushes of the library.
+/// The forms of the push.
 #[derive(Clone, Copy, Debug)]
 pub enum Way {
     ByValue,
@@ -33,7 +33,7 @@ pub enum Way {
     InChunks(usize),
     /// On a reader lent by the caller: by way of the push by value.
     Lent,
-    /// So too, in place.
+    /// So too, in place: the one of `daly`.
     InPlace,
 }
 
@@ -117,7 +117,7 @@ impl Port {
         let after = match way {
             Way::ByValue => {
                 // SAFETY: as in open.
-                let Pushed { said, reader } = unsafe { daly_reader_push(*reader, bytes, length) };
+                let Pushed { said, reader } = unsafe { daly_push_by_value(*reader, bytes, length) };
                 let fence = FENCE;
                 After {
                     said,
@@ -133,8 +133,8 @@ impl Port {
                 // SAFETY: as of Way::Into.
                 unsafe { daly_push_in_chunks(frames, reader.counts, bytes, length, size) }
             }),
-            Way::Lent => lent(reader, daly_reader_push_lent, chunk),
-            Way::InPlace => lent(reader, daly_reader_push_in_place, chunk),
+            Way::Lent => lent(reader, daly_push_lent, chunk),
+            Way::InPlace => lent(reader, daly_reader_push, chunk),
         };
         self.answered(after)
     }

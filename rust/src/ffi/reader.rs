@@ -6,7 +6,7 @@ use crate::Error;
 
 extern "C" {
     fn daly_reader_new(request: *const u8, len: usize, reply_size: usize) -> Opened;
-    fn daly_reader_push_in_place(reader: *mut Reader, chunk: *const u8, len: usize) -> Said;
+    fn daly_reader_push(reader: *mut Reader, chunk: *const u8, len: usize) -> Said;
     fn daly_reader_missing(reader: Reader) -> Missing;
     fn daly_reader_is_complete(reader: Reader) -> Completed;
     fn daly_reader_copy_out(reader: Reader, out: *mut u8, room: usize) -> List;
@@ -22,7 +22,7 @@ impl Reader {
 
     pub fn push(&mut self, chunk: &[u8]) -> Result<(), Error> {
         // SAFETY: as in `super::check`; the reader is alive and lent to nobody else.
-        let said = unsafe { daly_reader_push_in_place(self, chunk.as_ptr(), chunk.len()) };
+        let said = unsafe { daly_reader_push(self, chunk.as_ptr(), chunk.len()) };
         Error::check(said.status)
     }
 

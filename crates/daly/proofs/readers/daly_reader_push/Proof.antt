@@ -1,4 +1,4 @@
--- `daly::lent::daly_reader_push_in_place` meets its contract: a walk of its code, by hand. The borrow is opened; the array is taken out of the
+-- `daly::readers::daly_reader_push` meets its contract: a walk of its code, by hand. The borrow is opened; the array is taken out of the
 -- reader's cell and lent to `push_into` for a lifetime that is made for the call; it comes back, the numbers that were answered are stored, and the
 -- borrow is closed at the new reader. No byte of the array is copied. All that the proof knows of `push_into` is that it meets its contract.
 -- Assumes nothing.
@@ -59,12 +59,12 @@ use Rattle.reader.proofs.push_into as push
 use Rattle.reader.proofs.push_into.Symbol as push-def
 use Rattle.reader.proofs.push_into.Symbol.{name as #reader·push-into}
 use Rattle.reader.proofs.push_into.Met as push-thm
-use Rattle.daly.specs.Lent.{AnsweredLent}
-use Rattle.daly.proofs.Lending.{R, lowSaid, chunkVal, Own, args, vals, exits, Walk, lent-meets}
-use Rattle.daly.proofs.lent.daly_reader_push_in_place.Key.{name as #daly·push-in-place}
-use Rattle.daly.proofs.lent.daly_reader_push_in_place as lent
-use Rattle.daly.proofs.lent.daly_reader_push_in_place.Statement as stated
-use Rattle.daly.proofs.lent.daly_reader_push_in_place.Code as code
+use Rattle.reader.specs.Lent.{AnsweredLent}
+use Rattle.pushes.proofs.Lending.{R, lowSaid, chunkVal, Own, args, vals, exits, Walk, lent-meets}
+use Rattle.daly.proofs.readers.daly_reader_push.Key.{name as #daly·push}
+use Rattle.daly.proofs.readers.daly_reader_push as lent
+use Rattle.daly.proofs.readers.daly_reader_push.Statement as stated
+use Rattle.daly.proofs.readers.daly_reader_push.Code as code
 
 -- the array's type, the place of the field in the struct
 abbrev Arr : RattleType
@@ -226,13 +226,13 @@ module _ {M : Type 1} (𝓤 : URA M) (H : Heap 𝓤) (A : Atoms 𝓤) (W : Given
         move ! (18 ∷ 19 ∷ []) $ free1 ! $ move ! (16 ∷ 17 ∷ []) $ free1 ! $ move ! (14 ∷ 15 ∷ []) $ free1 ! $ move ! (12 ∷ 13 ∷ []) $ free1 ! $ move ! (10 ∷ 11 ∷ []) $ free1 ! $ move ! (8 ∷ 9 ∷ []) $ free1 ! $ free0 ! $
         keep ! (0 ∷ 1 ∷ 2 ∷ 3 ∷ 6 ∷ []) $ by ! (exits 𝓤 H A W at-mem run κ κ′ bounds q q′ b o γ (h m xs) s (r .said) (h (r .counts) (zs .0)) e (said-is r u is))))))))))))))))))
 
-pub daly-reader-push-in-place-spec : {M : Type 1} → stated.statement M
+pub daly-reader-push-spec : {M : Type 1} → stated.statement M
 unfolding code.routine tablesOf
-daly-reader-push-in-place-spec 𝓤 H 𝓜 𝓖 𝓡 =
+daly-reader-push-spec 𝓤 H 𝓜 𝓖 𝓡 =
     let W = givenOf 𝓤 H 𝓜 𝓖 in
     let 𝓣 = tablesOf 𝓤 H 𝓜 (tables 𝓤 H 𝓜 𝓡 code.env) in
     let known = cited 𝓤 H (Push 𝓤 H (𝓖 .A) (𝓜 .mem) (𝓡 .run)) 𝓜 𝓡 code.env #reader·push-into push-def.routine code.calls-reader·push-into (push-thm.met 𝓤 H 𝓜 𝓖 𝓡) in
     entered 𝓤 H (tripleOf 𝓤 H (𝓖 .A) lent.signature (lent.spec 𝓤 H (𝓖 .A) (𝓜 .mem) (𝓡 .run)))
-    (tables 𝓤 H 𝓜 𝓡 code.env .C) (tables 𝓤 H 𝓜 𝓡 code.env .Λ) #daly·push-in-place code.function (code.unfolded 𝓤 H 𝓜 𝓡)
+    (tables 𝓤 H 𝓜 𝓡 code.env .C) (tables 𝓤 H 𝓜 𝓡 code.env .Λ) #daly·push code.function (code.unfolded 𝓤 H 𝓜 𝓡)
     (lent-meets 𝓤 H (𝓖 .A) W (𝓜 .mem) (𝓡 .run) 𝓣 code.function
     (λ κ κ′ bounds q q′ b o γ h s. walk 𝓤 H (𝓖 .A) W (𝓜 .mem) (𝓡 .run) κ κ′ bounds q q′ b o γ (h .counts) (h .frames) s (𝓣 .C) (𝓣 .Λ) (fmOf 𝓤 H (W .laws) 𝓣) known))

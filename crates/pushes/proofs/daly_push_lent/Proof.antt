@@ -1,4 +1,4 @@
--- `daly::lent::daly_reader_push_lent` meets its contract: a walk of its code, by hand. The borrow is opened, the reader is copied out and handed
+-- `pushes::daly_push_lent` meets its contract: a walk of its code, by hand. The borrow is opened, the reader is copied out and handed
 -- to `push` with the chunk, the reader that `push` answered is stored, and the borrow is closed at it. All that the proof knows of `push` is that
 -- it meets its contract. Assumes nothing.
 use mathlib.Core.Path.{refl, ap}
@@ -47,12 +47,12 @@ use Rattle.reader.proofs.FrameReader.push as push
 use Rattle.reader.proofs.FrameReader.push.Symbol as push-def
 use Rattle.reader.proofs.FrameReader.push.Symbol.{name as #reader·push}
 use Rattle.reader.proofs.FrameReader.push.Met as push-thm
-use Rattle.daly.specs.Lent.{AnsweredLent}
-use Rattle.daly.proofs.Lending.{R, lowSaid, chunkVal, Own, args, vals, exits, Walk, lent-meets}
-use Rattle.daly.proofs.lent.daly_reader_push_lent.Key.{name as #daly·push-lent}
-use Rattle.daly.proofs.lent.daly_reader_push_lent as lent
-use Rattle.daly.proofs.lent.daly_reader_push_lent.Statement as stated
-use Rattle.daly.proofs.lent.daly_reader_push_lent.Code as code
+use Rattle.reader.specs.Lent.{AnsweredLent}
+use Rattle.pushes.proofs.Lending.{R, lowSaid, chunkVal, Own, args, vals, exits, Walk, lent-meets}
+use Rattle.pushes.proofs.daly_push_lent.Key.{name as #pushes·push-lent}
+use Rattle.pushes.proofs.daly_push_lent as lent
+use Rattle.pushes.proofs.daly_push_lent.Statement as stated
+use Rattle.pushes.proofs.daly_push_lent.Code as code
 
 -- the contract that the proof cites
 abbrev Push : {M : Type 1} (𝓤 : URA M) (H : Heap 𝓤) (A : Atoms 𝓤) (mem : Memory → SProp 𝓤) (run : Routine → Fun 𝓤) → Contract 𝓤
@@ -123,13 +123,13 @@ module _ {M : Type 1} (𝓤 : URA M) (H : Heap 𝓤) (A : Atoms 𝓤) (W : Given
         move ! (14 ∷ 15 ∷ []) $ free1 ! $ move ! (12 ∷ 13 ∷ []) $ free1 ! $ move ! (10 ∷ 11 ∷ []) $ free1 ! $ move ! (8 ∷ 9 ∷ []) $ free1 ! $ move ! (6 ∷ 7 ∷ []) $ free1 ! $ free0 ! $
         keep ! (0 ∷ 1 ∷ 2 ∷ 4 ∷ 5 ∷ []) $ by ! (exits 𝓤 H A W at-mem run κ κ′ bounds q q′ b o γ h s (r .said) (r .reader) e (said-is r u is)))))))))))))
 
-pub daly-reader-push-lent-spec : {M : Type 1} → stated.statement M
+pub daly-push-lent-spec : {M : Type 1} → stated.statement M
 unfolding code.routine tablesOf
-daly-reader-push-lent-spec 𝓤 H 𝓜 𝓖 𝓡 =
+daly-push-lent-spec 𝓤 H 𝓜 𝓖 𝓡 =
     let W = givenOf 𝓤 H 𝓜 𝓖 in
     let 𝓣 = tablesOf 𝓤 H 𝓜 (tables 𝓤 H 𝓜 𝓡 code.env) in
     let known = cited 𝓤 H (Push 𝓤 H (𝓖 .A) (𝓜 .mem) (𝓡 .run)) 𝓜 𝓡 code.env #reader·push push-def.routine code.calls-reader·FrameReader·push (push-thm.met 𝓤 H 𝓜 𝓖 𝓡) in
     entered 𝓤 H (tripleOf 𝓤 H (𝓖 .A) lent.signature (lent.spec 𝓤 H (𝓖 .A) (𝓜 .mem) (𝓡 .run)))
-    (tables 𝓤 H 𝓜 𝓡 code.env .C) (tables 𝓤 H 𝓜 𝓡 code.env .Λ) #daly·push-lent code.function (code.unfolded 𝓤 H 𝓜 𝓡)
+    (tables 𝓤 H 𝓜 𝓡 code.env .C) (tables 𝓤 H 𝓜 𝓡 code.env .Λ) #pushes·push-lent code.function (code.unfolded 𝓤 H 𝓜 𝓡)
     (lent-meets 𝓤 H (𝓖 .A) W (𝓜 .mem) (𝓡 .run) 𝓣 code.function
     (λ κ κ′ bounds q q′ b o γ h s. walk 𝓤 H (𝓖 .A) W (𝓜 .mem) (𝓡 .run) κ κ′ bounds q q′ b o γ h s (𝓣 .C) (𝓣 .Λ) (fmOf 𝓤 H (W .laws) 𝓣) known))

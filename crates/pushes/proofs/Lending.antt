@@ -1,5 +1,5 @@
--- What the two pushes on a lent reader have in common, whose contracts are one: how the borrow is left, and that a walk of the code which
--- ends so meets the contract. The walks themselves stand in `lent/`. Assumes nothing.
+-- What pushes on a lent reader have in common, whose contract is `AnsweredLent`: how the borrow is left, and that a walk of the code which ends so
+-- meets the contract. The walks are `daly_push_lent` here and `daly_reader_push` of the crate `daly`. Assumes nothing.
 use mathlib.Core.Path.{refl}
 use Prim.Native.Nat.{ℕ}
 use mathlib.Core.List.{[], _∷_, List}
@@ -36,8 +36,8 @@ use Rattle.reader.specs.declared.Said.{Said}
 use Rattle.reader.proofs.FrameReader as T
 use Rattle.reader.proofs.Said as U
 use Rattle.reader.proofs.Said.Laws as U′
-use Rattle.daly.specs.Lent.{AnsweredLent}
-use Rattle.daly.proofs.lent.daly_reader_push_lent as lent
+use Rattle.reader.specs.Lent.{AnsweredLent}
+use Rattle.pushes.proofs.daly_push_lent as lent
 
 abbrev pub R : RattleType
 R = T.the-row

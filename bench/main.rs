@@ -4,6 +4,7 @@
 mod frames;
 mod reader;
 
+use dalybms_lib::protocol::Address::Host;
 use dalybms_lib::protocol::*;
 use frames::reply;
 use std::hint::black_box;
@@ -28,6 +29,23 @@ struct MosfetStatusTold {
     capacity_ah: f32,
 }
 
+#[allow(dead_code)]
+#[repr(C)]
+struct CellVoltageRangeTold {
+    number: u8,
+    fields: [f32; 4],
+}
+
+#[repr(C)]
+struct TemperatureRangeTold([u8; 5]);
+
+#[allow(dead_code)]
+#[repr(C)]
+struct StatusTold {
+    bytes: [u8; 14],
+    cycles: u16,
+}
+
 #[repr(C)]
 struct ListTold {
     number: u8,
@@ -38,7 +56,10 @@ extern "C" {
     fn daly_frame_check(p: *const u8, len: usize, command: u8) -> u8;
     fn daly_request(command: u8, enable: bool, soc_percent: f32, out: *mut [u8; 13]) -> u8;
     fn daly_soc(p: *const u8, len: usize) -> SocTold;
+    fn daly_cell_voltage_range(p: *const u8, len: usize) -> CellVoltageRangeTold;
+    fn daly_temperature_range(p: *const u8, len: usize) -> TemperatureRangeTold;
     fn daly_mosfet_status(p: *const u8, len: usize) -> MosfetStatusTold;
+    fn daly_status(p: *const u8, len: usize) -> StatusTold;
     fn daly_cell_voltages(p: *const u8, len: usize, n: u8, out: *mut f32, room: usize) -> ListTold;
     fn daly_cell_temperatures(
         p: *const u8,
@@ -75,54 +96,87 @@ fn compare(name: &str, mut rust: impl FnMut(), mut port: impl FnMut()) {
     println!("{name:<28} {best_rust:>9.1} {best_port:>9.1} {ratio:>7.2}");
 }
 
-fn requests() {
+fn request(name: &str, command: u8, rust: impl Fn() -> Vec<u8>) {
     let mut out = [0; 13];
     compare(
-        "request, Soc",
-        || drop(black_box(Soc::request(Address::Host))),
+        &format!("request, {name}"),
+        || drop(black_box(rust())),
         || unsafe {
-            black_box(daly_request(black_box(0x90), false, 0.0, &mut out));
-        },
-    );
-    compare(
-        "request, SetSoc",
-        || drop(black_box(SetSoc::request(Address::Host, black_box(50.5)))),
-        || unsafe {
-            black_box(daly_request(
-                black_box(0x21),
-                false,
-                black_box(50.5),
-                &mut out,
-            ));
+            let command = black_box(command);
+            black_box(daly_request(command, true, black_box(50.5), &mut out));
         },
     );
 }
 
+fn requests() {
+    request("Soc", 0x90, || Soc::request(Host));
+    request("CellVoltageRange", 0x91, || CellVoltageRange::request(Host));
+    request("TemperatureRange", 0x92, || TemperatureRange::request(Host));
+    request("MosfetStatus", 0x93, || MosfetStatus::request(Host));
+    request("Status", 0x94, || Status::request(Host));
+    request("CellVoltages", 0x95, || CellVoltages::request(Host));
+    request("CellTemperatures", 0x96, || CellTemperatures::request(Host));
+    request("CellBalanceState", 0x97, || CellBalanceState::request(Host));
+    request("ErrorCode", 0x98, || ErrorCode::request(Host));
+    request("SetDischargeMosfet", 0xD9, || {
+        SetDischargeMosfet::request(Host, black_box(true))
+    });
+    request("SetChargeMosfet", 0xDA, || {
+        SetChargeMosfet::request(Host, black_box(true))
+    });
+    request("SetSoc", 0x21, || SetSoc::request(Host, black_box(50.5)));
+    request("BmsReset", 0x00, || BmsReset::request(Host));
+}
+
+/// A decoder of one frame, of a reply that it takes.
+fn record<T, U>(
+    name: &str,
+    command: u8,
+    mode: Option<u8>,
+    rust: impl Fn(&[u8]) -> T,
+    port: unsafe extern "C" fn(*const u8, usize) -> U,
+) {
+    let frame = reply(command, 1, mode);
+    compare(
+        name,
+        || drop(black_box(rust(black_box(&frame)))),
+        || unsafe {
+            black_box(port(black_box(frame.as_ptr()), 13));
+        },
+    );
+}
+
+/// The four replies that are only checked are this check with their command.
+unsafe extern "C" fn reset_check(p: *const u8, len: usize) -> u8 {
+    // SAFETY: the caller's.
+    unsafe { daly_frame_check(p, len, 0x00) }
+}
+
 fn one_frame() {
-    let reset = reply(0x00, 1, None);
-    compare(
-        "frame check",
-        || drop(black_box(BmsReset::decode(black_box(&reset)))),
-        || unsafe {
-            black_box(daly_frame_check(black_box(reset.as_ptr()), 13, 0x00));
-        },
+    record("frame check", 0x00, None, BmsReset::decode, reset_check);
+    record("Soc", 0x90, None, Soc::decode, daly_soc);
+    record(
+        "CellVoltageRange",
+        0x91,
+        None,
+        CellVoltageRange::decode,
+        daly_cell_voltage_range,
     );
-    let soc = reply(0x90, 1, None);
-    compare(
-        "Soc",
-        || drop(black_box(Soc::decode(black_box(&soc)))),
-        || unsafe {
-            black_box(daly_soc(black_box(soc.as_ptr()), 13));
-        },
+    record(
+        "TemperatureRange",
+        0x92,
+        None,
+        TemperatureRange::decode,
+        daly_temperature_range,
     );
-    let mosfet = reply(0x93, 1, Some(1));
-    compare(
+    record(
         "MosfetStatus",
-        || drop(black_box(MosfetStatus::decode(black_box(&mosfet)))),
-        || unsafe {
-            black_box(daly_mosfet_status(black_box(mosfet.as_ptr()), 13));
-        },
+        0x93,
+        Some(1),
+        MosfetStatus::decode,
+        daly_mosfet_status,
     );
+    record("Status", 0x94, None, Status::decode, daly_status);
 }
 
 fn stored(told: ListTold) {

@@ -6,6 +6,8 @@ use std::hint::black_box;
 use std::time::Instant;
 
 const ROUNDS: usize = 15;
+/// For chunks of 1 MiB, of which the Rust takes all A5 in some 15 s.
+const FEW: usize = 2;
 const ROOM: usize = 1105;
 /// Bytes of a stream for chunks of up to 4 KiB.
 const STREAM: usize = 1 << 17;
@@ -176,9 +178,9 @@ impl Case {
     }
 
     /// The best of several rounds of each, taken in turns: nanoseconds a byte.
-    fn timed(&self, size: usize, forms: &[fn(&Self, usize)]) -> Vec<f64> {
+    fn timed(&self, size: usize, forms: &[fn(&Self, usize)], rounds: usize) -> Vec<f64> {
         let mut best = vec![f64::MAX; forms.len()];
-        for _ in 0..ROUNDS {
+        for _ in 0..rounds {
             for (best, form) in best.iter_mut().zip(forms) {
                 let began = Instant::now();
                 form(self, size);
@@ -286,12 +288,12 @@ const FORMS: [(&str, fn(&Case, usize)); 5] = [
     ("in chunks", Case::in_chunks),
 ];
 
-fn row(case: &Case, size: usize) {
+fn row(case: &Case, size: usize, rounds: usize) {
     let forms: Vec<fn(&Case, usize)> = [Case::rust as fn(&Case, usize)]
         .into_iter()
         .chain(FORMS.map(|(_, form)| form))
         .collect();
-    let ns = case.timed(size, &forms);
+    let ns = case.timed(size, &forms, rounds);
     print!("{:<22} {size:>8} {:>9.2}", case.name, ns[0]);
     for ours in &ns[1..] {
         print!(" {:>9.2}", ours / ns[0]);
@@ -300,7 +302,10 @@ fn row(case: &Case, size: usize) {
 }
 
 pub fn table() {
-    print!("{:<22} {:>8} {:>9}", "reader: ratio to Rust", "chunk", "Rust ns/B");
+    print!(
+        "{:<22} {:>8} {:>9}",
+        "reader: ratio to Rust", "chunk", "Rust ns/B"
+    );
     for (name, _) in FORMS {
         print!(" {name:>9}");
     }
@@ -308,9 +313,9 @@ pub fn table() {
     let long = cases(MIB);
     for (case, long) in cases(STREAM).iter().zip(&long) {
         for size in [1, 13, 64, ROOM, 4 * KIB] {
-            row(case, size);
+            row(case, size, ROUNDS);
         }
-        row(long, MIB);
+        row(long, MIB, FEW);
     }
 }
 
@@ -325,7 +330,7 @@ pub fn flat() {
     for case in cases(16 * MIB) {
         print!("{:<22}", case.name);
         for size in sizes {
-            print!(" {:>10.3}", case.timed(size, &[Case::into])[0]);
+            print!(" {:>10.3}", case.timed(size, &[Case::in_place], ROUNDS)[0]);
         }
         println!();
     }

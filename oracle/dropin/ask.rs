@@ -23,8 +23,9 @@ pub fn answer(question: &Question) -> Answer {
         Question::Read {
             request,
             size,
-            chunks,
-        } => Ok(read(request, *size, chunks)),
+            stream,
+            cuttings,
+        } => Ok(read(request, *size, stream, cuttings)),
     };
     values.map_or_else(|error| Answer::Refused(name(error)), Answer::Values)
 }
@@ -227,15 +228,22 @@ fn error_codes(codes: Vec<ErrorCode>) -> Vec<Value> {
 }
 
 /// What the reader says when it is made, what every push answers and the reader says then, and its bytes.
-fn read(request: &[u8], size: usize, chunks: &[Vec<u8>]) -> Vec<Value> {
-    let mut reader = FrameReader::new(request, size);
-    let mut values = vec![Value::Flag(reader.is_complete()), missing(&reader)];
-    for chunk in chunks {
-        let said = reader.push(chunk);
-        values.push(said.map_or_else(|error| Value::Text(name(error)), |()| Value::Flag(true)));
+fn read(request: &[u8], size: usize, stream: &[u8], cuttings: &[Vec<usize>]) -> Vec<Value> {
+    let mut values = Vec::new();
+    for cutting in cuttings {
+        let mut reader = FrameReader::new(request, size);
+        values.reserve(3 * cutting.len() + 3);
         values.extend([Value::Flag(reader.is_complete()), missing(&reader)]);
+        let mut rest = stream;
+        for length in cutting {
+            let (chunk, behind) = rest.split_at(*length);
+            rest = behind;
+            let said = reader.push(chunk);
+            values.push(said.map_or_else(|error| Value::Text(name(error)), |()| Value::Flag(true)));
+            values.extend([Value::Flag(reader.is_complete()), missing(&reader)]);
+        }
+        values.push(Value::Bytes(reader.into_bytes()));
     }
-    values.push(Value::Bytes(reader.into_bytes()));
     values
 }
 

@@ -9,22 +9,22 @@ pub const PARTS: &[Part] = &[
     Part {
         name: "listed difference: every unknown mode; the Rust panics, UnknownMode",
         minimum: 506,
-        run: unknown_mode,
+        ask: unknown_mode,
     },
     Part {
         name: "listed difference: 255 temperatures; the Rust gives 259, the first 255",
         minimum: 200,
-        run: temperatures_255,
+        ask: temperatures_255,
     },
     Part {
         name: "listed difference: a reader for a short request; the Rust panics, RequestTooShort",
         minimum: 200,
-        run: short_request,
+        ask: short_request,
     },
     Part {
         name: "listed difference: a reader for over 1,105 bytes; the Rust takes it, ReplyTooLong",
         minimum: 200,
-        run: long_reply,
+        ask: long_reply,
     },
 ];
 
@@ -78,12 +78,13 @@ fn short_request(trial: &mut Trial) {
         let request = random.bytes(length);
         let size = [random.below(1_106), 1_106, usize::MAX][random.below(3)];
         let frame = frames::frame(random, 0x90, &[1]);
-        let chunks = vec![frame; random.below(3)];
-        let ours = refused_reader("RequestTooShort", chunks.len());
+        let pushes = random.below(3);
+        let ours = refused_reader("RequestTooShort", pushes);
         let question = Question::Read {
             request,
             size,
-            chunks,
+            stream: frame.repeat(pushes),
+            cuttings: vec![vec![FRAME; pushes]],
         };
         trial.differ(question, &Answer::Panicked, &ours);
     }
@@ -96,7 +97,8 @@ fn long_reply(trial: &mut Trial) {
         let question = Question::Read {
             request: frame.clone(),
             size: 1_105 + more * more,
-            chunks: vec![frame.clone(), Vec::new()],
+            stream: frame.clone(),
+            cuttings: vec![vec![FRAME, 0]],
         };
         let state = [Value::Flag(false), Value::Whole(13)];
         let taken = [&[Value::Flag(true)], &state[..]].concat();

@@ -7,10 +7,12 @@ mod answer;
 mod differences;
 #[path = "../compare/reader/discards.rs"]
 mod discards;
+mod drawn;
 #[path = "../compare/frames.rs"]
 mod frames;
 #[path = "../compare/original.rs"]
 mod original;
+mod plan;
 mod question;
 #[path = "../compare/random.rs"]
 mod random;
@@ -24,25 +26,15 @@ mod streams;
 mod told;
 mod trial;
 
+use plan::Plan;
 use std::process::ExitCode;
 
-/// A run of fewer cases fails.
+/// A full run of fewer cases in the parts of fixed size fails.
 const MINIMUM: u64 = 200_000;
 
-fn seed() -> Result<u64, String> {
-    let mut seed = std::env::var("SEED").ok();
-    let mut words = std::env::args().skip(1);
-    while let Some(word) = words.next() {
-        match word.as_str() {
-            "--seed" => seed = Some(words.next().ok_or("--seed needs a number")?),
-            _ => return Err(format!("unknown argument {word}: --seed N")),
-        }
-    }
-    random::seed_of(seed)
-}
-
 /// Runs all parts; whether each test passed.
-fn run(seed: u64) -> Vec<bool> {
+fn run(plan: Plan) -> Vec<bool> {
+    let seed = plan.seed;
     let parts = [
         requests::PARTS,
         replies::PARTS,
@@ -50,28 +42,32 @@ fn run(seed: u64) -> Vec<bool> {
         differences::PARTS,
     ]
     .concat();
-    let full: Vec<(bool, u64)> = parts.iter().map(|part| part.full(seed)).collect();
-    let cases = full.iter().map(|(_, cases)| cases).sum::<u64>();
-    let enough = cases >= MINIMUM;
-    trial::say(
-        enough,
-        &format!("{cases} cases of all parts (at least {MINIMUM}), seed {seed}"),
-    );
-    let mut passed: Vec<bool> = full.into_iter().map(|(passed, _)| passed).collect();
-    passed.extend([enough, differences::refusal()]);
-    passed.extend(parts.iter().map(|part| part.spoiled(seed)));
+    let fixed: Vec<(bool, u64)> = parts.iter().map(|part| part.run(plan)).collect();
+    let mut passed: Vec<bool> = fixed.iter().map(|(passed, _)| *passed).collect();
+    passed.push(differences::refusal());
+    passed.extend(drawn::run(plan));
+    if !plan.small {
+        let cases = fixed.iter().map(|(_, cases)| cases).sum::<u64>();
+        passed.push(cases >= MINIMUM);
+        trial::say(
+            cases >= MINIMUM,
+            &format!("fixed: {cases} cases (at least {MINIMUM}), seed {seed}"),
+        );
+        passed.extend(parts.iter().map(|part| part.spoiled(seed)));
+        passed.extend(drawn::spoiled(plan));
+    }
     passed
 }
 
 fn main() -> ExitCode {
-    let seed = match seed() {
-        Ok(seed) => seed,
+    let plan = match plan::asked() {
+        Ok(plan) => plan,
         Err(text) => {
             println!("FAILED {text}\n0 passed, 1 failed");
             return ExitCode::FAILURE;
         }
     };
-    let tests = run(seed);
+    let tests = run(plan);
     let passed = tests.iter().filter(|passed| **passed).count();
     println!("{passed} passed, {} failed", tests.len() - passed);
     ExitCode::from(u8::from(passed < tests.len()))

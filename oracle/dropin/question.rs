@@ -15,11 +15,12 @@ pub enum Question {
         count: u8,
         reply: Vec<u8>,
     },
-    /// A reader, and the chunks that are pushed into it.
+    /// A new reader for each cutting, and the stream pushed into it in chunks of these lengths.
     Read {
         request: Vec<u8>,
         size: usize,
-        chunks: Vec<Vec<u8>>,
+        stream: Vec<u8>,
+        cuttings: Vec<Vec<usize>>,
     },
 }
 

@@ -2,6 +2,7 @@
 
 use crate::discards;
 use crate::question::Question;
+use crate::random::Random;
 use crate::streams::{self, Asked, Make};
 use crate::trial::{Part, Trial};
 
@@ -9,26 +10,26 @@ pub const PARTS: &[Part] = &[
     Part {
         name: "FrameReader, streams of every kind for 0 to 85 frames, cut at random",
         minimum: 11_000,
-        run: kinds,
+        ask: kinds,
     },
     Part {
         name: "FrameReader, streams that end before the reply does",
         minimum: 7_000,
-        run: unfinished,
+        ask: unfinished,
     },
     Part {
         name: "FrameReader, 511 to 514 discarded bytes by each rule, and pushed on",
         minimum: 2_000,
-        run: over,
+        ask: over,
     },
     Part {
         name: "FrameReader, every reply size",
         minimum: 1_106,
-        run: sizes,
+        ask: sizes,
     },
 ];
 
-const KINDS: [Make; 11] = [
+pub const KINDS: [Make; 11] = [
     streams::clean,
     streams::noisy,
     streams::all_starts,
@@ -43,15 +44,21 @@ const KINDS: [Make; 11] = [
 ];
 
 /// Cut at random; the stream's last chunk is followed by an empty one.
-fn read(trial: &mut Trial, asked: Asked, stream: &[u8]) {
-    let request = asked.request(&mut trial.random);
-    let cut = streams::cut(&mut trial.random, stream);
-    let mut chunks: Vec<Vec<u8>> = cut.into_iter().map(<[u8]>::to_vec).collect();
-    chunks.push(Vec::new());
+fn cutting(random: &mut Random, stream: &[u8]) -> Vec<usize> {
+    let chunks = streams::cut(random, stream).into_iter();
+    chunks.map(<[u8]>::len).chain([0]).collect()
+}
+
+/// The stream, cut so often anew.
+pub fn read(trial: &mut Trial, asked: Asked, stream: Vec<u8>, cuttings: usize) {
+    let random = &mut trial.random;
+    let request = asked.request(random);
+    let cuttings = (0..cuttings).map(|_| cutting(random, &stream)).collect();
     trial.ask(Question::Read {
         request,
         size: asked.size,
-        chunks,
+        stream,
+        cuttings,
     });
 }
 
@@ -61,7 +68,7 @@ fn kinds(trial: &mut Trial) {
             for _ in 0..trial.rounds(12) {
                 let asked = Asked::drawn(&mut trial.random, wanted);
                 let stream = make(&mut trial.random, asked);
-                read(trial, asked, &stream);
+                read(trial, asked, stream, 1);
             }
         }
     }
@@ -72,9 +79,9 @@ fn unfinished(trial: &mut Trial) {
         for make in KINDS {
             for _ in 0..trial.rounds(8) {
                 let asked = Asked::drawn(&mut trial.random, wanted);
-                let stream = make(&mut trial.random, asked);
-                let end = trial.random.below(stream.len() + 1);
-                read(trial, asked, &stream[..end]);
+                let mut stream = make(&mut trial.random, asked);
+                stream.truncate(trial.random.below(stream.len() + 1));
+                read(trial, asked, stream, 1);
             }
         }
     }
@@ -84,15 +91,20 @@ fn over(trial: &mut Trial) {
     for rule in 0..discards::RULES.len() {
         for count in 511..=514 {
             for _ in 0..trial.rounds(100) {
-                let random = &mut trial.random;
-                let asked = discards::asked_for(random, rule);
-                let last = random.below(asked.wanted + 1);
-                let first = discards::discarding(random, asked, rule, count, last);
-                let onward = streams::onward(random, asked, last + 1);
-                read(trial, asked, &[first, onward].concat());
+                read_over(trial, rule, count);
             }
         }
     }
+}
+
+/// So many bytes discarded by one rule, and pushed on.
+pub fn read_over(trial: &mut Trial, rule: usize, count: usize) {
+    let random = &mut trial.random;
+    let asked = discards::asked_for(random, rule);
+    let last = random.below(asked.wanted + 1);
+    let first = discards::discarding(random, asked, rule, count, last);
+    let onward = streams::onward(random, asked, last + 1);
+    read(trial, asked, [first, onward].concat(), 1);
 }
 
 fn sizes(trial: &mut Trial) {
@@ -103,6 +115,6 @@ fn sizes(trial: &mut Trial) {
             ..Asked::drawn(&mut trial.random, wanted)
         };
         let stream = streams::mixed(&mut trial.random, asked);
-        read(trial, asked, &stream);
+        read(trial, asked, stream, 1);
     }
 }

@@ -9,42 +9,42 @@ pub const PARTS: &[Part] = &[
     Part {
         name: "decode, right replies of one frame",
         minimum: 33_000,
-        run: right,
+        ask: right,
     },
     Part {
         name: "decode, replies of every length to 40, and the longest",
         minimum: 1_000,
-        run: lengths,
+        ask: lengths,
     },
     Part {
         name: "decode, every byte damaged, with a wrong sum and with a right one",
         minimum: 8_000,
-        run: damaged,
+        ask: damaged,
     },
     Part {
         name: "decode, drawn replies",
         minimum: 39_000,
-        run: drawn,
+        ask: drawn,
     },
     Part {
         name: "CellVoltages and CellTemperatures, every count, right, short and long",
         minimum: 10_000,
-        run: numbered,
+        ask: numbered,
     },
     Part {
         name: "CellVoltages and CellTemperatures, every count, damaged frames",
         minimum: 10_000,
-        run: numbered_damaged,
+        ask: numbered_damaged,
     },
     Part {
         name: "CellBalanceState, every count",
         minimum: 2_560,
-        run: balance,
+        ask: balance,
     },
     Part {
         name: "ErrorCode, every fault alone and with every other",
         minimum: 4_096,
-        run: faults,
+        ask: faults,
     },
 ];
 
@@ -56,7 +56,7 @@ fn known_mode(command: u8, reply: &mut [u8]) {
     }
 }
 
-fn decode(trial: &mut Trial, command: u8, count: u8, mut reply: Vec<u8>) {
+pub fn decode(trial: &mut Trial, command: u8, count: u8, mut reply: Vec<u8>) {
     known_mode(command, &mut reply);
     trial.ask(Question::Decode {
         command,
@@ -150,22 +150,25 @@ fn numbered(trial: &mut Trial) {
 
 /// In one frame a drawn byte is changed, or its head or number, and the sum left or made right; now and
 /// then in a second one.
+pub fn damage(random: &mut Random, reply: &mut [u8]) {
+    for _ in 0..1 + random.below(2) {
+        let start = FRAME * random.below(reply.len() / FRAME);
+        let frame = &mut reply[start..start + FRAME];
+        let place = [0, 2, DATA, random.below(FRAME)][random.below(4)];
+        frame[place] ^= random.change();
+        if random.below(2) == 0 {
+            frames::put_sum(frame);
+        }
+    }
+}
+
 fn numbered_damaged(trial: &mut Trial) {
     for (command, values, highest) in NUMBERED {
         for count in 1..=highest {
             for _ in 0..trial.rounds(20) {
-                let random = &mut trial.random;
                 let wanted = usize::from(count).div_ceil(values);
-                let mut reply = frames::numbered(random, command, wanted);
-                for _ in 0..1 + random.below(2) {
-                    let start = FRAME * random.below(wanted);
-                    let frame = &mut reply[start..start + FRAME];
-                    let place = [0, 2, DATA, random.below(FRAME)][random.below(4)];
-                    frame[place] ^= random.change();
-                    if random.below(2) == 0 {
-                        frames::put_sum(frame);
-                    }
-                }
+                let mut reply = frames::numbered(&mut trial.random, command, wanted);
+                damage(&mut trial.random, &mut reply);
                 decode(trial, command, count, reply);
             }
         }

@@ -7,17 +7,17 @@ pub const PARTS: &[Part] = &[
     Part {
         name: "request, every command, switched on and off",
         minimum: 26,
-        run: every_command,
+        ask: every_command,
     },
     Part {
         name: "SetSoc::request, steps, edges and drawn percentages",
         minimum: 62_000,
-        run: set_soc,
+        ask: set_soc,
     },
     Part {
         name: "reply_size, every command and count",
         minimum: 3_328,
-        run: sizes,
+        ask: sizes,
     },
 ];
 
@@ -33,7 +33,7 @@ fn every_command(trial: &mut Trial) {
     }
 }
 
-fn ask_set_soc(trial: &mut Trial, soc_percent: f32) {
+pub fn ask_set_soc(trial: &mut Trial, soc_percent: f32) {
     trial.ask(Question::Request {
         command: 0x21,
         enable: false,

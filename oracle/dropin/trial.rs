@@ -2,12 +2,13 @@
 
 use crate::answer::Answer;
 use crate::original::quiet;
+use crate::plan::Plan;
 use crate::question::Question;
 use crate::random::Random;
 use crate::sides::{dropin, rust};
 
 /// Mismatches shown of one part; all are counted.
-const SHOWN: u64 = 5;
+pub const SHOWN: usize = 5;
 /// Small runs of one part with a spoiled answer.
 const SPOILED: u64 = 5;
 
@@ -16,12 +17,12 @@ pub struct Part {
     pub name: &'static str,
     /// A full run of fewer cases fails.
     pub minimum: u64,
-    pub run: fn(&mut Trial),
+    pub ask: fn(&mut Trial),
 }
 
 /// An answer of the drop-in to be changed.
 #[derive(Clone, Copy)]
-struct Spoil {
+pub struct Spoil {
     case: u64,
     bit: usize,
 }
@@ -29,15 +30,27 @@ struct Spoil {
 /// One run of one part.
 pub struct Trial {
     pub random: Random,
-    name: &'static str,
-    /// A small run tests the part itself: it draws fewer cases and prints nothing.
+    pub cases: u64,
+    pub mismatches: u64,
+    /// The first mismatches, with all that is needed to repeat them.
+    pub shown: Vec<String>,
+    /// A small run tests the part itself, with fewer cases.
     small: bool,
     spoil: Option<Spoil>,
-    cases: u64,
-    mismatches: u64,
 }
 
 impl Trial {
+    pub fn new(seed: u64, small: bool, spoil: Option<Spoil>) -> Self {
+        Self {
+            random: Random::new(seed),
+            cases: 0,
+            mismatches: 0,
+            shown: Vec::new(),
+            small,
+            spoil,
+        }
+    }
+
     /// How often a drawn case is repeated: `full` times in a full run.
     pub fn rounds(&self, full: u64) -> u64 {
         match self.small {
@@ -83,8 +96,8 @@ impl Trial {
         self.cases += 1;
         if !right {
             self.mismatches += 1;
-            if !self.small && self.mismatches <= SHOWN {
-                println!("MISMATCH {}: {}", self.name, text());
+            if self.shown.len() < SHOWN {
+                self.shown.push(text());
             }
         }
     }
@@ -92,51 +105,53 @@ impl Trial {
 
 impl Part {
     fn trial(&self, seed: u64, small: bool, spoil: Option<Spoil>) -> Trial {
-        let mut trial = Trial {
-            random: Random::new(seed),
-            name: self.name,
-            small,
-            spoil,
-            cases: 0,
-            mismatches: 0,
-        };
-        (self.run)(&mut trial);
+        let mut trial = Trial::new(seed, small, spoil);
+        (self.ask)(&mut trial);
         trial
     }
 
     /// The part itself, and how many cases it had.
-    pub fn full(&self, seed: u64) -> (bool, u64) {
-        let trial = self.trial(seed, false, None);
-        let right = trial.mismatches == 0 && trial.cases >= self.minimum;
+    pub fn run(&self, plan: Plan) -> (bool, u64) {
+        let trial = self.trial(plan.seed, plan.small, None);
+        let minimum = if plan.small { 1 } else { self.minimum };
+        let right = trial.mismatches == 0 && trial.cases >= minimum;
+        show(self.name, &trial.shown);
         say(
             right,
             &format!(
-                "{}: {} cases (at least {}), {} mismatches",
-                self.name, trial.cases, self.minimum, trial.mismatches
+                "{}: {} cases (at least {minimum}), {} mismatches",
+                self.name, trial.cases, trial.mismatches
             ),
         );
         (right, trial.cases)
     }
 
-    /// Whether it notices an answer of the drop-in that is another one.
     pub fn spoiled(&self, seed: u64) -> bool {
-        let right = self.trial(seed, true, None);
-        let mut random = Random::new(seed ^ right.cases);
-        let noticed = (0..SPOILED).filter(|_| {
-            let case = random.below(right.cases.max(1) as usize) as u64;
-            let bit = random.below(1 << 20);
-            self.trial(seed, true, Some(Spoil { case, bit })).mismatches == 1
-        });
-        let noticed = noticed.count() as u64;
-        let good = right.mismatches == 0 && noticed == SPOILED;
-        say(
-            good,
-            &format!(
-                "{}: {noticed} of {SPOILED} spoiled answers noticed",
-                self.name
-            ),
-        );
-        good
+        notices(self.name, seed, |spoil| self.trial(seed, true, spoil))
+    }
+}
+
+/// Whether a part notices an answer of the drop-in that is another one.
+pub fn notices(name: &str, seed: u64, small: impl Fn(Option<Spoil>) -> Trial) -> bool {
+    let right = small(None);
+    let mut random = Random::new(seed ^ right.cases);
+    let noticed = (0..SPOILED).filter(|_| {
+        let case = random.below(right.cases.max(1) as usize) as u64;
+        let bit = random.below(1 << 20);
+        small(Some(Spoil { case, bit })).mismatches == 1
+    });
+    let noticed = noticed.count() as u64;
+    let good = right.mismatches == 0 && noticed == SPOILED;
+    say(
+        good,
+        &format!("{name}: {noticed} of {SPOILED} spoiled answers noticed"),
+    );
+    good
+}
+
+pub fn show(name: &str, mismatches: &[String]) {
+    for text in mismatches.iter().take(SHOWN) {
+        println!("MISMATCH {name}: {text}");
     }
 }
 

@@ -4,7 +4,7 @@ use crate::random;
 use std::thread;
 
 /// Cases drawn where no other number is asked for.
-const CASES: u64 = 4_000_000;
+const CASES: u64 = 8_000_000;
 
 #[derive(Clone, Copy)]
 pub struct Plan {
@@ -12,8 +12,7 @@ pub struct Plan {
     /// How many are drawn.
     pub cases: u64,
     pub threads: u64,
-    /// The parts of fixed size are small, and no answer is spoiled: for runs with a fault in them, or under a
-    /// slow machine.
+    /// The parts of fixed size are small, and no answer is spoiled: for runs with a fault, or under valgrind.
     pub small: bool,
 }
 

@@ -43,8 +43,11 @@ pub const KINDS: [Make; 11] = [
     streams::mixed,
 ];
 
-/// Cut at random; the stream's last chunk is followed by an empty one.
+/// Cut at random, or not at all; the stream's last chunk is followed by an empty one.
 fn cutting(random: &mut Random, stream: &[u8]) -> Vec<usize> {
+    if random.below(8) == 0 {
+        return vec![stream.len(), 0];
+    }
     let chunks = streams::cut(random, stream).into_iter();
     chunks.map(<[u8]>::len).chain([0]).collect()
 }

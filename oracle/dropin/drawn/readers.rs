@@ -54,6 +54,19 @@ fn zeros(random: &mut Random, asked: Asked) -> Vec<u8> {
     [before, streams::clean(random, asked)].concat()
 }
 
+/// Stretches of zeros about as long as the port passes over at once, or a multiple of it.
+fn quiet(random: &mut Random, asked: Asked) -> Vec<u8> {
+    let mut stream = Vec::new();
+    for number in 1..=asked.wanted {
+        if random.below(asked.wanted) < 3 {
+            let length = 32 * (1 + random.below(3)) + random.below(3) - 1;
+            stream.resize(stream.len() + length, 0);
+        }
+        stream.extend(streams::right(random, asked, number));
+    }
+    stream
+}
+
 fn of_kinds(trial: &mut Trial, kinds: &[Make], cuttings: usize) {
     let random = &mut trial.random;
     let asked = asked(random);
@@ -65,19 +78,19 @@ fn of_kinds(trial: &mut Trial, kinds: &[Make], cuttings: usize) {
 }
 
 fn right(trial: &mut Trial) {
-    of_kinds(
-        trial,
-        &[streams::clean, streams::restarts, streams::echoes],
-        1,
-    );
+    let kinds: [Make; 3] = [streams::clean, streams::restarts, streams::echoes];
+    of_kinds(trial, &kinds, 1);
 }
 
 fn noise(trial: &mut Trial) {
-    of_kinds(
-        trial,
-        &[streams::noisy, zeros, streams::all_starts, streams::drawn],
-        1,
-    );
+    let kinds: [Make; 5] = [
+        streams::noisy,
+        zeros,
+        quiet,
+        streams::all_starts,
+        streams::drawn,
+    ];
+    of_kinds(trial, &kinds, 1);
 }
 
 fn damaged(trial: &mut Trial) {

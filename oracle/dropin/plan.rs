@@ -4,7 +4,7 @@ use crate::random;
 use std::thread;
 
 /// Cases drawn where no other number is asked for.
-const CASES: u64 = 8_000_000;
+const CASES: u64 = 12_000_000;
 
 #[derive(Clone, Copy)]
 pub struct Plan {

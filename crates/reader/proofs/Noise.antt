@@ -2,7 +2,7 @@
 use mathlib.Core.Path.{_≡_, refl}
 use mathlib.Core.Bool.{Bool, true, false}
 use mathlib.Core.List.{List}
-use Prim.Native.Nat.{ℕ, _+_, _≤_}
+use Prim.Native.Nat.{ℕ, _+_, _≤_, _<_}
 use native.Mathlib.Omega.{arith}
 use borrow.Author.Tests.{ltb-true, ltb-false}
 use borrow.Author.Count.{below-more}
@@ -22,3 +22,11 @@ quiet-then s a b c p q k h l = go (ltb k b) refl
     go : (t : Bool) → ltb k b ≡ t → getD s k 0 ≡ 0xA5 → ⊥
     go true e = p k (ltb-true k b e) l
     go false e = q k h (ltb-false k b e)
+
+-- a byte and what comes behind it
+pub quiet-first : (s : List ℕ) (a b : ℕ) → (getD s a 0 ≡ 0xA5 → ⊥) → Quiet s (a + 1) b → Quiet s a b
+quiet-first s a b n q k h l z = go (ltb a k) refl
+  where
+    go : (t : Bool) → ltb a k ≡ t → ⊥
+    go true e = let m : a < k = ltb-true a k e in q k h (omega arith) z
+    go false e = let d : k ≡ a = omega (arith, ltb-false a k e) in n (rw (← d) z)

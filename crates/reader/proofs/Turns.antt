@@ -20,7 +20,7 @@ use Rattle.reader.specs.View.{chop}
 use Rattle.reader.proofs.Parts.{length-chop}
 use Rattle.reader.specs.View.{config}
 use Rattle.reader.proofs.Parts.{window, cut, cut-is, first-of, chop-copied}
-use Rattle.reader.specs.Steps.{Ran}
+use Rattle.reader.specs.Steps.{Ran, Quiet}
 use Rattle.reader.proofs.Judge.{is-collected, is-discarded, stays}
 
 -- ---- the loop
@@ -85,16 +85,14 @@ Here c o₀ x₀ s f have at l x = Ahead o₀ x₀ (run c (chop have f) (drop at
 
 module _ (c : Config) (o₀ : Outcome) (x₀ : ℕ) (s f : List ℕ) (have at l x : ℕ) (here : Here c o₀ x₀ s f have at l x) where
   -- the bytes before the next A5 are passed at once
-  pub here-noise : (to : ℕ) → have < c .wanted → at < to → to ≤ length s → (getD s at 0 ≡ 0xA5 → ⊥) → ((k : ℕ) → k < to → at + 1 ≤ k → getD s k 0 ≡ 0xA5 → ⊥)
-      → Here c o₀ x₀ s f have to (l + (to - at)) x
-  here-noise to w b t n m =
+  pub here-quiet : (to : ℕ) → have < c .wanted → at ≤ to → to ≤ length s → Quiet s at to → Here c o₀ x₀ s f have to (l + (to - at)) x
+  here-quiet to w b t n =
       let q : at + (to - at) ≡ to = omega arith in
       let e : drop (to - at) (drop at s) ≡ drop to s = drop-drop (to - at) at s ∙ rw q in
       rw e at (ahead-noise c o₀ x₀ (to - at) (chop have f) (drop at s) l x (is-open c have f w) (omega (arith, length-drop at s)) each here)
     where
       each : (i : ℕ) → i < to - at → getD (drop at s) i 0 ≡ 0xA5 → ⊥
-      each zero h z = n (sym (first-of s at) ∙ z)
-      each (suc i) h z = m (at + suc i) (omega arith) (omega arith) (sym (getD-drop at s (suc i) 0) ∙ z)
+      each i h z = n (at + i) (omega arith) (omega arith) (sym (getD-drop at s i 0) ∙ z)
 
   module _ (w : have < c .wanted) (b : at + 13 ≤ length s) (z : getD s at 0 ≡ 0xA5) where
     judged : look c (length (chop have f)) (drop at s) ≡ some (judge c have (window s at))

@@ -3,9 +3,10 @@
 use mathlib.Core.Path.{_≡_, refl, sym, ap, _∙_}
 use mathlib.Core.Bool.{Bool, true, false}
 use mathlib.Core.List.{List, _++_, append-assoc}
-use Prim.Native.Nat.{ℕ, _+_, _*_, _≤_, _<_}
+use Prim.Native.Nat.{ℕ, _+_, _*_, _-_, _≤_, _<_}
 use native.Mathlib.Omega.{arith}
-use lib.ListN.{length, take, drop, length-drop, length-append, length-take, take-append-drop}
+use native.Mathlib.Nat.{zero-add}
+use lib.ListN.{length, take, drop, drop-of-length-le, length-drop, length-append, length-take, take-append-drop}
 use lib.Seq.{take-all, drop-append-le, drop-append-add}
 use lib.Dec.{leb}
 use borrow.Author.Tests.{leb-true, leb-false}
@@ -15,8 +16,8 @@ use Rattle.rules.specs.Reader.{complete, took}
 use Rattle.rules.proofs.Recut.{follow, total-append, run-append, run-halts, run-completes, look-open, held-complete, held-open, untaken-complete, untaken-open}
 use Rattle.reader.specs.View.{chop}
 use Rattle.reader.specs.View.{front}
-use Rattle.reader.specs.Steps.{Ran, Moves}
-use Rattle.reader.proofs.Turns.{is-open, is-complete}
+use Rattle.reader.specs.Steps.{Ran, Moves, Quiet}
+use Rattle.reader.proofs.Turns.{is-open, is-complete, ahead-start, here-quiet, here-end, end-bytes}
 use Rattle.reader.specs.declared.scan.Progress.{Progress}
 use Rattle.reader.specs.declared.moves.Moved.{Moved}
 
@@ -61,6 +62,16 @@ module _ (c : Config) (kept : List (List ℕ)) (p : List ℕ) (x n : ℕ) (s f :
         lost = ran .lost;
         cleared = ran .cleared;
       }
+
+-- nothing but noise from `at` on: all of it is discarded, and no scan is needed
+pub moves-noise : (c : Config) (s f : List ℕ) (have at x : ℕ) → have < c .wanted → at ≤ length s → Quiet s at (length s) → x < 4294967296
+    → Moves c (run c (chop have f) (drop at s)) x s f record { took = length s; lost = length s - at; collected = have; cleared = x; held = 0 }
+unfolding front
+moves-noise c s f have at x w b q y =
+    let o : Outcome = run c (chop have f) (drop at s) in
+    let h = rw (zero-add (length s - at)) at (here-quiet c o x s f have at 0 x (ahead-start o x) (length s) w b (omega arith) q) in
+    let r = here-end c o x s f have (length s) (length s - at) x h have (end-bytes c s f have (length s) (omega arith)) (omega arith) (omega arith) (omega arith) y in
+    moves-open c (chop have f) (drop at s) x have s f _ r s f 0 w (drop-of-length-le s {i = length s} (omega arith)) refl
 
 -- ---- two scans: over the bytes a in hand with the first 12 of t, and over what is left of t
 

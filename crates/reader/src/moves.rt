@@ -7,6 +7,7 @@ ghost use Rattle.rules.specs.Ledger.{run};
 ghost use Rattle.reader.specs.View.{config, chop, front};
 ghost use Rattle.reader.specs.Steps.{Moves};
 use crate::scan::copy;
+use crate::scan::is_noise;
 use crate::scan::scan;
 
 // What a push came to: the bytes taken and discarded, the frames collected, the count of frames cleared, the bytes held.
@@ -47,6 +48,20 @@ fn direct(
     requires { ⌜ (at ≤ length (now chunk)) × (collected ≤ wanted) × (wanted ≤ 85) ⌝ }
     ensures { λ r. ⌜ Moves (config command wanted) (run (config command wanted) (chop collected (now (frames .entry))) (drop at (now (chunk .entry)))) count (now (chunk .entry)) (now (frames .exit)) r × (r .lost ≤ length (now (chunk .entry))) ⌝ }
 {
+    // Bytes of noise often come few at a time: they are discarded without a scan, which passes over more of them quickly itself.
+    if collected < wanted {
+        if chunk.len() - at < 32 {
+            if is_noise(chunk, at) {
+                return Moved {
+                    took: chunk.len(),
+                    lost: chunk.len() - at,
+                    collected: collected,
+                    cleared: count,
+                    held: 0,
+                };
+            }
+        }
+    }
     let p = scan(chunk, at, frames, command, wanted, collected, count);
     let stop = p.at;
     let have = p.collected;

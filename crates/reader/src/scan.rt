@@ -87,6 +87,21 @@ fn start_from(s: &[u8], from: usize) -> usize
     i
 }
 
+// Whether no byte of s from `from` on is A5: for a few bytes, of which each is looked at until one is.
+pub(crate) fn is_noise(s: &[u8], from: usize) -> bool
+    requires { ⌜ from ≤ length (now s) ⌝ }
+    ensures { λ r. ⌜ (r ≡ true → Quiet (now (s .entry)) from (length (now (s .entry)))) ⌝ }
+{
+    let mut i = from;
+    while i < s.len() {
+        if s[i] == 0xA5 {
+            return false;
+        }
+        i += 1;
+    }
+    true
+}
+
 // How many bytes of w, which are 13 and begin with A5, are discarded: 1, 13, or 0 where w is collected.
 fn discards(w: &[u8], command: u8, wanted: usize, have: usize) -> usize
     requires { ⌜ (length (now w) ≡ 13) × (have < 85) ⌝ }

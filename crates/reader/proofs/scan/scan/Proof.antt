@@ -5,7 +5,8 @@ use lib.ListN.{length, drop}
 use Rattle.rules.specs.Ledger.{run}
 use Rattle.reader.specs.View.{chop}
 use Rattle.reader.specs.View.{config}
-use Rattle.reader.proofs.Turns.{Here, ahead-start, here-noise, here-discarded, here-collected, here-end, end-complete, end-bytes, end-short}
+use Rattle.reader.proofs.Noise.{quiet-first}
+use Rattle.reader.proofs.Turns.{Here, ahead-start, here-quiet, here-discarded, here-collected, here-end, end-complete, end-bytes, end-short}
 use mathlib.Core.Path.{_≡_, sym, _∙_}
 use Rattle.reader.proofs.scan.scan.Statement.{statement}
 use Rattle.reader.proofs.scan.scan.Tie as tie
@@ -48,8 +49,8 @@ loop-again c =
     let l = e .before .before .loop in
     let a = e .before .before .before .before .args in
     let r = c .start-from .ensures in (
-      here-noise _ _ _ (a .s .now) _ _ (l .at) _ _ (l .inv .0)
-          (c .start-from .result) (e .if1 .left) (omega (arith, r .0)) (r .1) (c .before .if2 .taken) (r .2),
+      here-quiet _ _ _ (a .s .now) _ _ (l .at) _ _ (l .inv .0)
+          (c .start-from .result) (e .if1 .left) (omega (arith, r .0)) (r .1) (quiet-first (a .s .now) (l .at) (c .start-from .result) (c .before .if2 .taken) (r .2)),
       r .1,
       omega (arith, r .0, l .inv .2),
       l .inv .3,

@@ -1,4 +1,4 @@
-"""What the tests of the tools in Python share. An importer sets sys.dont_write_bytecode first."""
+"""What the tools in Python and their tests share. An importer sets sys.dont_write_bytecode first."""
 import importlib.machinery
 import importlib.util
 import sys

@@ -296,7 +296,9 @@ fn row(case: &Case, size: usize, rounds: usize) {
     let ns = case.timed(size, &forms, rounds);
     print!("{:<22} {size:>8} {:>9.2}", case.name, ns[0]);
     for ours in &ns[1..] {
-        print!(" {:>9.2}", ours / ns[0]);
+        let ratio = ours / ns[0];
+        let digits = if ratio < 0.01 { 5 } else { 2 };
+        print!(" {ratio:>9.digits$}");
     }
     println!();
 }

@@ -9,8 +9,8 @@ decode-requires : tie.Need-decode-requires
 decode-requires c κs = search needs
 
 -- src/readings.rt:261:59
-enum-known-charge : tie.Need-enum-known-charge
-enum-known-charge c = search needs
+enum-known-counts : tie.Need-enum-known-counts
+enum-known-counts c = search needs
 
 -- src/readings.rt:265:23
 mode-number-requires : tie.Need-mode-number-requires
@@ -28,7 +28,7 @@ number-requires c κs = search needs
 returns : tie.Need-returns
 returns c =
     rw (c .mode-number .ensures)
-    (ap mosfetStatusCountsTold (sym (c .before .before .charge .given .1) ∙ c .before .before .before .before .decode .ensures))
+    (ap mosfetStatusCountsTold (sym (c .before .before .counts .given .1) ∙ c .before .before .before .before .decode .ensures))
 
 -- src/readings.rt:256:1
 returns-2 : tie.Need-returns-2
@@ -41,7 +41,7 @@ daly-mosfet-status-counts-spec =
     tie.close
     (tie.spec
     decode-requires
-    enum-known-charge
+    enum-known-counts
     mode-number-requires
     enum-known-refusal
     number-requires

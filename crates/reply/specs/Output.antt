@@ -20,7 +20,6 @@ known command = leb 0x90 command && leb command 0x98
 unfoldable pub replySizeFor : ℕ → ℕ → ℕ
 replySizeFor command count = cond (eqb command 0x95) (replySize 3 count) (cond (eqb command 0x96) (replySize 7 count) 13)
 
--- the reader for it: "it wants n = ceil(size/13) frames"
 abbrev pub wantedFor : ℕ → ℕ → ℕ
 wantedFor command count = framesOf (replySizeFor command count)
 

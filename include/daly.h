@@ -65,7 +65,7 @@ uint8_t daly_frame_refusal(const uint8_t *buffer, size_t len, size_t k);
  */
 uint8_t daly_request(uint8_t command, bool enable, float soc_percent, uint8_t out[DALY_FRAME]);
 
-/* ---- Replies of one frame: `number` is 0, 1, 2 or 3 */
+/* ---- Replies of one frame: `number` is 0, 1, 2 or 3, of 93 also 5 */
 
 /*
  * A decoder looks at the whole buffer: the sum is that of all bytes but the last, even past 13. The records
@@ -223,15 +223,14 @@ struct daly_opened {
 struct daly_opened daly_reader_new(const uint8_t *request, size_t len, size_t reply_size);
 
 /*
- * A push into your reader, which moves on where it lies. It says 0; 2 where more than 512 bytes were ever discarded, with the chunk taken all the same;
- * 8 where the reader's fields contradict one another, and then it stays as it was. `took` is how many bytes
- * of the chunk were taken: a complete reader takes none.
+ * A push into your reader, which moves on where it lies. It says 0; 2 where more than 512 bytes were ever
+ * discarded, with the chunk taken all the same; 8 where the reader's fields contradict one another, and then
+ * it stays as it was. `took` is how many bytes of the chunk were taken: a complete reader takes none.
  */
 struct daly_said {
     uint8_t status;
     size_t took;
 };
-
 struct daly_said daly_reader_push(struct daly_reader *reader, const uint8_t *chunk, size_t len);
 
 /* How many bytes the next frame still needs, 0 when complete: 0 or 8. */

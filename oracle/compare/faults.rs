@@ -23,7 +23,7 @@ pub fn parts() -> Vec<Part> {
         Part::new(
             of,
             "the fault of every bit, by its position and name",
-            1 + 64 + 48,
+            2 + 64 + 2 * 48,
             names,
         ),
         lists::room_part::<ErrorCode>(of),
@@ -103,15 +103,14 @@ fn table_rows(text: &str) -> Vec<String> {
         .collect()
 }
 
-/// The faults in the Rust's text and, once there is such a file, in our own table.
-fn listings() -> Vec<(&'static str, Vec<String>)> {
+/// The faults in the Rust's text and in our own table.
+fn listings() -> [(&'static str, Vec<String>); 2] {
     let (rust, ours) = ("oracle/protocol.rs", "docs/FAULTS.md");
-    let text = fs::read_to_string(rust).expect("run in the repository's root");
-    let table = fs::read_to_string(ours).map(|text| (ours, table_rows(&text)));
-    [(rust, rust_rows(&text))]
-        .into_iter()
-        .chain(table)
-        .collect()
+    let text = |file: &str| fs::read_to_string(file).expect("run in the repository's root");
+    [
+        (rust, rust_rows(&text(rust))),
+        (ours, table_rows(&text(ours))),
+    ]
 }
 
 /// Positions are the compiler's, names the Rust's own; every listing must have them so.

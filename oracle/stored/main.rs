@@ -61,6 +61,8 @@ fn main() {
             }
         }
     }
-    let sum = list.bytes().fold(0_u32, |sum, byte| sum.wrapping_add(byte.into()));
+    let sum = list
+        .bytes()
+        .fold(0_u32, |sum, byte| sum.wrapping_add(byte.into()));
     print!("{list}end {sum}\n");
 }

@@ -44,7 +44,9 @@ pub fn all(random: &mut Random) -> Vec<(&'static str, Questions)> {
 }
 
 fn requests() -> Questions {
-    let reading = (0x90..=0x98).chain([0x00]).map(|command| vec![REQUEST, command]);
+    let reading = (0x90..=0x98)
+        .chain([0x00])
+        .map(|command| vec![REQUEST, command]);
     let switches = [0xD9, 0xDA].into_iter();
     let switches = switches.flat_map(|command| [0, 1].map(|flag| vec![REQUEST, command, flag]));
     reading.chain(switches).collect()
@@ -57,9 +59,23 @@ fn percent(bits: u32) -> Vec<u8> {
 /// Document 01's P2 to P5, the edges of f32, halves and their neighbours, and drawn values.
 fn set_soc(random: &mut Random) -> Questions {
     let named = [0.25_f32, 50.5, -0.04, 0.0, -0.0, 99.95, 100.0, 100.05];
-    let edges = [f32::MIN_POSITIVE, f32::MAX, f32::MIN, f32::INFINITY, f32::NEG_INFINITY, f32::NAN];
+    let edges = [
+        f32::MIN_POSITIVE,
+        f32::MAX,
+        f32::MIN,
+        f32::INFINITY,
+        f32::NEG_INFINITY,
+        f32::NAN,
+    ];
     let mut patterns: Vec<u32> = named.iter().chain(&edges).map(|x| x.to_bits()).collect();
-    patterns.extend([0x3D4C_CCCC, 0x3D4C_CCCD, 0xFFC0_0000, 0x7F80_0001, 0xFFFF_FFFF, 1]);
+    patterns.extend([
+        0x3D4C_CCCC,
+        0x3D4C_CCCD,
+        0xFFC0_0000,
+        0x7F80_0001,
+        0xFFFF_FFFF,
+        1,
+    ]);
     for _ in 0..60 {
         let half = (random.below(1010) as f32 + 0.5) / 10.0;
         patterns.extend((0..3).map(|offset| half.to_bits() - 1 + offset));
@@ -159,7 +175,14 @@ fn faults(random: &mut Random) -> Questions {
 fn read(asked: Asked, chunk: usize, stream: &[u8]) -> Vec<u8> {
     let [size_high, size_low] = (asked.size as u16).to_be_bytes();
     let [chunk_high, chunk_low] = (chunk as u16).to_be_bytes();
-    let front = [READER, asked.command, size_high, size_low, chunk_high, chunk_low];
+    let front = [
+        READER,
+        asked.command,
+        size_high,
+        size_low,
+        chunk_high,
+        chunk_low,
+    ];
     [&front, stream].concat()
 }
 

@@ -42,33 +42,62 @@ fn degrees(degrees: i8) -> [u8; 4] {
 
 fn soc(reply: &[u8]) -> Vec<u8> {
     let t = original::soc(reply);
-    told(t.number, &[&float(t.total_voltage), &float(t.current), &float(t.soc_percent)])
+    told(
+        t.number,
+        &[
+            &float(t.total_voltage),
+            &float(t.current),
+            &float(t.soc_percent),
+        ],
+    )
 }
 
 fn cell_voltage_range(reply: &[u8]) -> Vec<u8> {
     let t = original::cell_voltage_range(reply);
     let (high, low) = (float(t.highest_voltage), float(t.lowest_voltage));
-    told(t.number, &[&high, &[t.highest_cell], &low, &[t.lowest_cell]])
+    told(
+        t.number,
+        &[&high, &[t.highest_cell], &low, &[t.lowest_cell]],
+    )
 }
 
 fn temperature_range(reply: &[u8]) -> Vec<u8> {
     let t = original::temperature_range(reply);
-    let (high, low) = (degrees(t.highest_temperature), degrees(t.lowest_temperature));
-    told(t.number, &[&high, &[t.highest_sensor], &low, &[t.lowest_sensor]])
+    let (high, low) = (
+        degrees(t.highest_temperature),
+        degrees(t.lowest_temperature),
+    );
+    told(
+        t.number,
+        &[&high, &[t.highest_sensor], &low, &[t.lowest_sensor]],
+    )
 }
 
 fn mosfet_status(reply: &[u8]) -> Vec<u8> {
     let t = original::mosfet_status(reply);
-    let bytes = [t.mode, t.charging_mosfet.0, t.discharging_mosfet.0, t.bms_cycles];
+    let bytes = [
+        t.mode,
+        t.charging_mosfet.0,
+        t.discharging_mosfet.0,
+        t.bms_cycles,
+    ];
     told(t.number, &[&bytes, &float(t.capacity_ah)])
 }
 
 fn status(reply: &[u8]) -> Vec<u8> {
     let t = original::status(reply);
-    let front = [t.cells, t.temperature_sensors, t.charger_running.0, t.load_running.0];
+    let front = [
+        t.cells,
+        t.temperature_sensors,
+        t.charger_running.0,
+        t.load_running.0,
+    ];
     let inputs = [t.di1.0, t.di2.0, t.di3.0, t.di4.0];
     let outputs = [t.do1.0, t.do2.0, t.do3.0, t.do4.0];
-    told(t.number, &[&front, &inputs, &outputs, &t.cycles.to_be_bytes()])
+    told(
+        t.number,
+        &[&front, &inputs, &outputs, &t.cycles.to_be_bytes()],
+    )
 }
 
 fn listed<P>(listed: Listed<P>, bytes: impl Fn(P) -> Vec<u8>) -> Vec<u8> {
@@ -87,8 +116,12 @@ fn decode(question: &[u8]) -> Vec<u8> {
         0x93 => mosfet_status(reply),
         0x94 => status(reply),
         0x95 => listed(original::cell_voltages(reply, count), |v| float(v).to_vec()),
-        0x96 => listed(original::cell_temperatures(reply, count), |v| v.to_be_bytes().to_vec()),
-        0x97 => listed(original::cell_balance_state(reply, count), |Flag(v)| vec![v]),
+        0x96 => listed(original::cell_temperatures(reply, count), |v| {
+            v.to_be_bytes().to_vec()
+        }),
+        0x97 => listed(original::cell_balance_state(reply, count), |Flag(v)| {
+            vec![v]
+        }),
         0x98 => listed(original::error_codes(reply), |v| vec![v]),
         _ => only_checked(command, reply),
     }
@@ -109,7 +142,13 @@ fn reader(question: &[u8]) -> Vec<u8> {
         last = reader.push(chunk);
     }
     let complete = u8::from(reader.is_complete());
-    let told = [0, original::number(&last), complete, reader.missing() as u8, 0];
+    let told = [
+        0,
+        original::number(&last),
+        complete,
+        reader.missing() as u8,
+        0,
+    ];
     [told.as_slice(), &reader.into_bytes()].concat()
 }
 

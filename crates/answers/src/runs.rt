@@ -1,6 +1,5 @@
 // A new reader and a stream that is pushed into it in chunks.
 ghost use mathlib.Core.Path.{_≡_};
-ghost use Prim.Native.Nat.{_≤_};
 ghost use Rattle.text.specs.Text.{Put};
 ghost use Rattle.report.specs.Lines.{flagNumber};
 ghost use Rattle.reader.specs.View.{view};

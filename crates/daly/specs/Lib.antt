@@ -1,3 +1,4 @@
+-- How C is told an answer: document 01's number first. A reader begins here.
 pub mod Requests
 pub mod Readings
 pub mod Lists

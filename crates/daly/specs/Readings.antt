@@ -1,11 +1,9 @@
 -- What C is told of a one-frame reply: document 01's number and the record, or the number and zeros. Definitions only.
-use Prim.Native.Nat.{ℕ}
 use mathlib.Core.Bool.{false}
 use lib.IntN.{pos}
 use lib.Ieee.{Float, binary32, ofBits}
 use Rattle.frame.specs.Refusals.{refusalNumber}
-use Rattle.mosfet_status.specs.declared.MosfetMode.{MosfetMode}
-use Rattle.mosfet_status.specs.declared.MosfetMode.the-variants.{Stationary, Charging, Discharging}
+use Rattle.mosfet_status.specs.MosfetStatus.{modeNumber}
 use Rattle.soc.specs.declared.SocAnswer.{SocAnswer}
 use Rattle.soc.specs.declared.SocAnswer.the-variants.{SocGiven, SocRefused}
 use Rattle.daly.specs.declared.readings.SocTold.{SocTold}
@@ -30,12 +28,6 @@ use Rattle.daly.specs.declared.readings.MosfetStatusCountsTold.{MosfetSt
 use Rattle.status.specs.declared.StatusAnswer.{StatusAnswer}
 use Rattle.status.specs.declared.StatusAnswer.the-variants.{StatusGiven, StatusRefused}
 use Rattle.daly.specs.declared.readings.StatusTold.{StatusTold}
-
--- "the mode 0 to 2"
-abbrev pub modeNumber : MosfetMode → ℕ
-modeNumber Stationary = 0
-modeNumber Charging = 1
-modeNumber Discharging = 2
 
 -- the bits that are all zero: 0.0
 abbrev pub noFloat : Float

@@ -1,7 +1,7 @@
 -- The request that a command byte asks for. Definitions only.
 use Prim.Native.Nat.{ℕ}
 use mathlib.Core.Path.{_≡_}
-use mathlib.Core.Bool.{Bool, true, false, cond, not, _||_}
+use mathlib.Core.Bool.{Bool, false, cond, not, _||_}
 use mathlib.Core.List.{List, [], _∷_}
 use lib.Dec.{eqb}
 use lib.Ieee.{Float}
@@ -10,6 +10,7 @@ use Rattle.frame.specs.declared.Check.the-variants.{Sound}
 use Rattle.frame.specs.Refusals.{refuse, checkNumber}
 use Rattle.request.specs.Requests.{readRequest, switchRequest, setSocRequest}
 
+-- whether n is in the list
 abbrev pub oneOf : List ℕ → ℕ → Bool
 oneOf [] n = false
 oneOf (k ∷ ks) n = eqb n k || oneOf ks n

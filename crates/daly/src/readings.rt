@@ -1,12 +1,11 @@
 // What C is told of a one-frame reply: the number, and the record, which is all zero where the number is not.
 ghost use mathlib.Core.Path.{_≡_};
-ghost use Rattle.daly.specs.Readings.{modeNumber};
 ghost use Rattle.daly.specs.Readings.{socTold, socCountsTold, cellVoltageRangeTold, cellVoltageRangeCountsTold};
 ghost use Rattle.daly.specs.Readings.{temperatureRangeTold, mosfetStatusTold, mosfetStatusCountsTold, statusTold};
 ghost use Rattle.soc.specs.Soc.{decodedSoc, decodedSocCounts};
 ghost use Rattle.cell_voltage_range.specs.CellVoltageRange.{decodedCellVoltageRange, decodedCellVoltageRangeCounts};
 ghost use Rattle.temperature_range.specs.TemperatureRange.{decodedTemperatureRange};
-ghost use Rattle.mosfet_status.specs.MosfetStatus.{decodedMosfetStatus, decodedMosfetStatusCounts};
+ghost use Rattle.mosfet_status.specs.MosfetStatus.{modeNumber, decodedMosfetStatus, decodedMosfetStatusCounts};
 ghost use Rattle.status.specs.Status.{decodedStatus};
 use reading::CellVoltageRange;
 use reading::CellVoltageRangeAnswer;
@@ -258,15 +257,15 @@ pub extern "C" fn daly_mosfet_status_counts(rx_buffer: &[u8]) -> MosfetStatusCou
     ensures { λ r. ⌜ r ≡ mosfetStatusCountsTold (decodedMosfetStatusCounts (now («rx_buffer» .entry))) ⌝ }
 {
     match MosfetStatusCounts::decode(rx_buffer) {
-        MosfetStatusCountsAnswer::MosfetStatusCountsGiven(charge) => {
-            let mode = charge.mode;
+        MosfetStatusCountsAnswer::MosfetStatusCountsGiven(counts) => {
+            let mode = counts.mode;
             MosfetStatusCountsTold {
                 number: 0,
                 mode: mode_number(mode),
-                charging_mosfet: charge.charging_mosfet,
-                discharging_mosfet: charge.discharging_mosfet,
-                bms_cycles: charge.bms_cycles,
-                capacity_ah: charge.capacity_ah,
+                charging_mosfet: counts.charging_mosfet,
+                discharging_mosfet: counts.discharging_mosfet,
+                bms_cycles: counts.bms_cycles,
+                capacity_ah: counts.capacity_ah,
             }
         },
         MosfetStatusCountsAnswer::MosfetStatusCountsRefused(refusal) => MosfetStatusCountsTold {

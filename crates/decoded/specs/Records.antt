@@ -13,12 +13,12 @@ use Rattle.temperature_range.specs.declared.TemperatureRangeAnswer.the-variants
 use Rattle.mosfet_status.specs.declared.MosfetStatus.{MosfetStatus}
 use Rattle.mosfet_status.specs.declared.MosfetStatusAnswer.{MosfetStatusAnswer}
 use Rattle.mosfet_status.specs.declared.MosfetStatusAnswer.the-variants.{MosfetStatusGiven, MosfetStatusRefused}
+use Rattle.mosfet_status.specs.MosfetStatus.{modeNumber}
 use Rattle.status.specs.declared.IOState.{IOState}
 use Rattle.status.specs.declared.Status.{Status}
 use Rattle.status.specs.declared.StatusAnswer.{StatusAnswer}
 use Rattle.status.specs.declared.StatusAnswer.the-variants.{StatusGiven, StatusRefused}
 use Rattle.text.specs.Text.{hex2}
-use Rattle.report.specs.Fields.{modeNumber}
 use Rattle.decoded.specs.Hex.{hex4, floatHex, flagHex, degreesHex, refusalHex}
 
 -- 90

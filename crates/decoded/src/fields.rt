@@ -1,11 +1,10 @@
 // The one-frame replies: 0 and the fields in the order of the source, or the refusal.
 ghost use mathlib.Core.Path.{_≡_};
 ghost use Rattle.text.specs.Text.{Put};
-ghost use Rattle.report.specs.Fields.{modeNumber};
 ghost use Rattle.soc.specs.Soc.{decodedSoc};
 ghost use Rattle.cell_voltage_range.specs.CellVoltageRange.{decodedCellVoltageRange};
 ghost use Rattle.temperature_range.specs.TemperatureRange.{decodedTemperatureRange};
-ghost use Rattle.mosfet_status.specs.MosfetStatus.{decodedMosfetStatus};
+ghost use Rattle.mosfet_status.specs.MosfetStatus.{modeNumber, decodedMosfetStatus};
 ghost use Rattle.status.specs.Status.{decodedStatus};
 ghost use Rattle.decoded.specs.Records.{socFields, socHex, cellVoltageRangeFields, cellVoltageRangeHex};
 ghost use Rattle.decoded.specs.Records.{temperatureRangeFields, temperatureRangeHex, mosfetFront, mosfetStatusFields, mosfetStatusHex};

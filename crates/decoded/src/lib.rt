@@ -5,7 +5,6 @@ ghost use Rattle.frame.specs.Checks.{frameCheck};
 ghost use Rattle.text.specs.Text.{Put};
 ghost use Rattle.decoded.specs.Hex.{hex4, hex8, floatHex, flagHex, twos, degreesHex, refusalHex, checkHex, hexes};
 ghost use Rattle.decoded.specs.Decoded.{decodedHex};
-use frame::Check;
 use frame::Refusal;
 use frame::command;
 

@@ -29,6 +29,12 @@ mosfetCheck s = then (frameCheck 0x93 s) (refuse (ltb 2 (byteAt s 4)) UnknownMod
 abbrev pub modeOf : ℕ → MosfetMode
 modeOf byte = cond (eqb byte 0) Stationary (cond (eqb byte 1) Charging Discharging)
 
+-- "the mode 0 to 2", as it is told in a number
+abbrev pub modeNumber : MosfetMode → ℕ
+modeNumber Stationary = 0
+modeNumber Charging = 1
+modeNumber Discharging = 2
+
 -- "Capacity is a four-byte count"
 abbrev pub mosfetStatusCounts : List ℕ → MosfetStatusCounts
 mosfetStatusCounts s = record {

@@ -4,7 +4,7 @@ use mathlib.Core.List.{List}
 use Prim.Native.Nat.{ℕ}
 use Rattle.wire.proofs.Decides.{both}
 use Rattle.reader.specs.View.{view}
-use Rattle.reader.specs.Lent.{AnsweredLent, Agree, PushesAgree}
+use Rattle.reader.specs.Lent.{AnsweredLent, PushesAgree}
 use Rattle.reader.specs.declared.FrameReader.{FrameReader}
 use Rattle.reader.specs.declared.Said.{Said}
 use Rattle.reader.specs.declared.Told.{Told}

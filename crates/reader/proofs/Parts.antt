@@ -9,7 +9,7 @@ use native.Mathlib.Nat.{zero-add, suc-add, add-zero}
 use borrow.Author.Tests.{ltb-true, ltb-false}
 use lib.Dec.{ltb}
 use lib.ListN.{length, take, drop, getD, set, length-drop}
-use lib.Seq.{paste, paste-zero, paste-suc, length-paste, take-paste, length-take-le, take-all, take-at, drop-at, take-nil, drop-nil, drop-drop, take-add, getD-drop, getD-take, take-take, take-append-le}
+use lib.Seq.{paste, paste-zero, paste-suc, length-paste, take-paste, length-take-le, take-all, take-at, drop-at, take-nil, drop-nil, drop-drop, take-add, getD-drop, take-take, take-append-le}
 use Rattle.rules.specs.Reader.{joined}
 use Rattle.reader.specs.View.{chop, front}
 
@@ -66,12 +66,9 @@ copy-step f s n a j g lf ls e =
 pub copy-one : (f s : List ℕ) (n a : ℕ) → n < length f → a < length s → set f n (getD s a 0) ≡ paste f n (drop a s) 1
 copy-one f s n a lf ls = rw (add-zero n, add-zero a) at (copy-step f s n a 0 f (omega arith) (omega arith) (paste-zero f n (drop a s)))
 
--- the 13 bytes of s at `at`, and one of them
+-- the 13 bytes of s at `at`
 abbrev pub window : List ℕ → ℕ → List ℕ
 window s at = take 13 (drop at s)
-
-pub in-window : (s : List ℕ) (at i : ℕ) → i < 13 → getD (window s at) i 0 ≡ getD s (at + i) 0
-in-window s at i h = getD-take 13 (drop at s) i 0 h ∙ getD-drop at s i 0
 
 -- the same, as a slice of the code has it
 abbrev pub cut : List ℕ → ℕ → List ℕ

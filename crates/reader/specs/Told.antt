@@ -12,6 +12,7 @@ use Rattle.reader.specs.declared.Opened.{Opened}
 use Rattle.reader.specs.declared.Missing.{Missing}
 use Rattle.reader.specs.declared.Completed.{Completed}
 
+-- a reader into which nothing was pushed: its numbers, and these with its array, all 0
 abbrev pub freshCounts : ℕ → ℕ → Counts
 freshCounts command wanted =
     record { command = command; mark = false; taken = 0; discarded = 0; cleared = 0; wanted = wanted; collected = 0; held = 0 }

@@ -25,6 +25,7 @@ pub record State : Type 0 where
 unfoldable pub stateOf : Input → List ℕ → State
 stateOf i f = record { seen = i .seen; command = i .command; count = i .count; reader = view (i .counts) f }
 
+-- nothing has come yet
 abbrev pub begun : Input
 begun = record { seen = 0; command = 0; count = 0; counts = freshCounts 0 0 }
 
@@ -43,6 +44,7 @@ unfoldable pub fromFirst : State → List ℕ → State
 fromFirst st [] = st
 fromFirst st (c ∷ s) = fromSecond (record { seen = 1; command = c; count = st .count; reader = st .reader }) s
 
+-- the next bytes of the input, by how many have come
 unfoldable pub pushed : State → List ℕ → State
 pushed st s = cond (ltb 1 (st .seen)) (streamed st s) (cond (eqb (st .seen) 1) (fromSecond st s) (fromFirst st s))
 

@@ -25,7 +25,7 @@ use Rattle.status.specs.declared.StatusAnswer.the-variants.{StatusGiven, Status
 use Rattle.soc.specs.Soc.{decodedSocCounts}
 use Rattle.cell_voltage_range.specs.CellVoltageRange.{decodedCellVoltageRangeCounts}
 use Rattle.temperature_range.specs.TemperatureRange.{decodedTemperatureRange}
-use Rattle.mosfet_status.specs.MosfetStatus.{decodedMosfetStatusCounts}
+use Rattle.mosfet_status.specs.MosfetStatus.{modeNumber, decodedMosfetStatusCounts}
 use Rattle.status.specs.Status.{decodedStatus}
 use Rattle.list.specs.Cells.{millivoltsAt, voltagesCheck, temperatureAt, temperaturesCheck}
 use Rattle.list.proofs.Filling.{length-firsts}
@@ -37,7 +37,7 @@ use Rattle.text.proofs.Putting.{put-whole}
 use Rattle.text.proofs.Long.{hex2-few, field-few, line-few, signed-line-few}
 use Rattle.report.specs.declared.Tally.{Tally}
 use Rattle.report.specs.Lines.{refusedLine, flagNumber, flagLine, each, listText}
-use Rattle.report.specs.Fields.{socText, cellVoltageRangeText, temperatureRangeText, modeNumber, mosfetStatusText, statusText}
+use Rattle.report.specs.Fields.{socText, cellVoltageRangeText, temperatureRangeText, mosfetStatusText, statusText}
 use Rattle.report.specs.Lists.{cellLine, sensorLine, balanceLine, faultLine, cellsText, sensorsText, balanceText, faultsText}
 use Rattle.report.specs.Report.{countsText, answerText, reportText}
 

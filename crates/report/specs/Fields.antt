@@ -10,11 +10,10 @@ use Rattle.cell_voltage_range.specs.declared.CellVoltageRangeCountsAnswer.the-v
 use Rattle.temperature_range.specs.declared.TemperatureRange.{TemperatureRange}
 use Rattle.temperature_range.specs.declared.TemperatureRangeAnswer.{TemperatureRangeAnswer}
 use Rattle.temperature_range.specs.declared.TemperatureRangeAnswer.the-variants.{TemperatureRangeGiven, TemperatureRangeRefused}
-use Rattle.mosfet_status.specs.declared.MosfetMode.{MosfetMode}
-use Rattle.mosfet_status.specs.declared.MosfetMode.the-variants.{Stationary, Charging, Discharging}
 use Rattle.mosfet_status.specs.declared.MosfetStatusCounts.{MosfetStatusCounts}
 use Rattle.mosfet_status.specs.declared.MosfetStatusCountsAnswer.{MosfetStatusCountsAnswer}
 use Rattle.mosfet_status.specs.declared.MosfetStatusCountsAnswer.the-variants.{MosfetStatusCountsGiven, MosfetStatusCountsRefused}
+use Rattle.mosfet_status.specs.MosfetStatus.{modeNumber}
 use Rattle.status.specs.declared.IOState.{IOState}
 use Rattle.status.specs.declared.Status.{Status}
 use Rattle.status.specs.declared.StatusAnswer.{StatusAnswer}
@@ -58,12 +57,7 @@ abbrev pub temperatureRangeText : TemperatureRangeAnswer → List ℕ
 temperatureRangeText (TemperatureRangeGiven k) = temperatureRangeLines k
 temperatureRangeText (TemperatureRangeRefused r) = refusalLine r
 
--- 93: "the mode 0 to 2"
-abbrev pub modeNumber : MosfetMode → ℕ
-modeNumber Stationary = 0
-modeNumber Charging = 1
-modeNumber Discharging = 2
-
+-- 93
 abbrev pub mosfetStatusLines : MosfetStatusCounts → List ℕ
 mosfetStatusLines k =
     line (word "mode") (modeNumber (k .mode))

@@ -1,5 +1,4 @@
 // What `readreply` prints after the input's end, as text in a lent buffer: one line of counts, then the reply's fields or `refused N`.
-ghost use mathlib.Core.Path.{_≡_};
 ghost use Rattle.text.specs.Text.{Put};
 ghost use Rattle.report.specs.Lines.{refusalLine, flagLine};
 ghost use Rattle.report.specs.Report.{countsHead, countsText, answerText, reportText};

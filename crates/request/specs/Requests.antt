@@ -27,5 +27,6 @@ switchRequest command enable = request command (switchByte enable ∷ 0 ∷ 0 �
 abbrev pub countRequest : ℕ → ℕ → List ℕ
 countRequest command count = request command (0 ∷ 0 ∷ 0 ∷ 0 ∷ 0 ∷ 0 ∷ highByte count ∷ lowByte count ∷ [])
 
+-- "`SetSoc` 21"
 abbrev pub setSocRequest : Float → List ℕ
 setSocRequest percent = countRequest 0x21 (setSocCount percent)

@@ -1,4 +1,4 @@
--- Worked streams, by computation: document 01's example, P11, P12, P13, and one for each rule that no theorem of demand 3 would miss.
+-- Worked streams, by computation: document 01's example, P11, P12, P13, and one for each rule that could be another without any theorem of demand 3 noticing.
 use mathlib.Core.Path.{_≡_, refl}
 use mathlib.Core.Bool.{Bool, true, false}
 use mathlib.Core.List.{List, [], _∷_, _++_}

@@ -13,7 +13,8 @@ use Rattle.wire.specs.Bytes.{byteAt}
 use Rattle.stored.specs.declared.Replayed.{Replayed}
 use Rattle.stored.specs.declared.Progress.{Progress}
 use Rattle.stored.specs.Cases.{lineHolds}
-use Rattle.stored.specs.Replays.{isEnd, verdictOf, tallied, Seen, nothing, goesOn, next, readOn, seen}
+use Rattle.stored.specs.Replays.{isEnd, verdictOf, tallied, Seen, nothing, goesOn, next, readOn}
+use Rattle.stored.specs.Steps.{seen}
 
 read-append : (s : Seen) (xs ys : List ℕ) → readOn s (xs ++ ys) ≡ readOn (readOn s xs) ys
 read-append s [] ys = refl

@@ -1,15 +1,12 @@
 -- The list, byte after byte. Definitions only.
-use Prim.Native.Nat.{ℕ, _+_, _-_, _%_, _≤_, _<_}
-use mathlib.Core.Path.{_≡_}
+use Prim.Native.Nat.{ℕ, _+_, _%_}
 use mathlib.Core.Bool.{Bool, false, cond}
 use mathlib.Core.List.{List, [], _∷_, _++_}
 use lib.Dec.{ltb, eqb}
-use lib.ListN.{length, take, drop}
 use Rattle.wire.specs.Bytes.{byteAt}
 use Rattle.text.specs.Words.{word}
 use Rattle.text.specs.Text.{field}
 use Rattle.stored.specs.declared.Replayed.{Replayed}
-use Rattle.stored.specs.declared.Progress.{Progress}
 use Rattle.stored.specs.Cases.{sameBytes, lineHolds}
 
 -- the end line: `end` and the sum of all bytes before the line
@@ -60,29 +57,3 @@ readOn s (b ∷ bs) = readOn (next s b) bs
 
 abbrev pub replayed : List ℕ → Replayed
 replayed list = readOn nothing list .found
-
--- ---- the walk of the code; no promise cites it
-
--- its numbers, before the byte at i
-abbrev pub seen : List ℕ → ℕ → Progress → Seen
-seen list i p = record {
-  line = take (i - p .start) (drop (p .start) list);
-  sum = p .sum;
-  before = p .before;
-  passed = p .passed;
-  found = p .found;
-}
-
-pub record Bounds (i : ℕ) (p : Progress) : Type 0 where
-  pub start : p .start ≤ i
-  pub passed : p .passed ≤ i
-  pub lines : p .found .lines ≤ p .passed
-  pub held : p .found .held ≤ p .passed
-
-pub record Ready (list : List ℕ) (i : ℕ) (p : Progress) : Type 0 where
-  pub inside : i < length list
-  pub bounds : Bounds i p
-
-pub record Steps (list : List ℕ) (i : ℕ) (p r : Progress) : Type 0 where
-  pub on : seen list (i + 1) r ≡ next (seen list i p) (byteAt list i)
-  pub bounds : Bounds (i + 1) r

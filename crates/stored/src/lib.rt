@@ -7,7 +7,8 @@ ghost use lib.ListN.{length, take};
 ghost use Rattle.wire.specs.Bytes.{byteAt};
 ghost use Rattle.text.specs.Text.{Put};
 ghost use Rattle.stored.specs.Cases.{digitValue, pairValue, questionOf, caseLine, sameBytes, lineHolds};
-ghost use Rattle.stored.specs.Replays.{isEnd, verdictOf, tallied, replayed, Steps, Ready};
+ghost use Rattle.stored.specs.Replays.{isEnd, verdictOf, tallied, replayed};
+ghost use Rattle.stored.specs.Steps.{Ready, Steps};
 
 // Case lines, how many of them hold, the number of the first line that does not (0 where all do), and whether the list ends with
 // the sum of all that stands before.

@@ -32,8 +32,8 @@ pub const PARTS: [Part; 3] = [
     ),
 ];
 
-/// Questions about each state: three pushes, `missing`, completeness and copying out.
-const ASKED: u64 = 6;
+/// Questions about each state: the five pushes, `missing`, completeness and copying out.
+const ASKED: u64 = 8;
 
 fn alone(trial: &mut Trial) {
     for (which, harm) in HARMS.into_iter().enumerate() {

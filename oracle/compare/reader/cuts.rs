@@ -12,7 +12,7 @@ use crate::trial::{Part, Trial};
 pub const PARTS: [Part; 3] = [
     Part::new(
         OF,
-        "two random cuttings, and one push of each sort: the same end",
+        "two random cuttings, and one push of each form: the same end",
         300_000,
         cuttings,
     )
@@ -24,13 +24,7 @@ pub const PARTS: [Part; 3] = [
         in_two,
     )
     .of_streams(1_000),
-    Part::new(
-        OF,
-        "by value, on lent frames and in chunks: the same answer",
-        200_000,
-        ways,
-    )
-    .of_streams(100_000),
+    Part::new(OF, "every form of the push: the same answer", 400_000, ways).of_streams(100_000),
 ];
 
 /// Where a reader is after a stream.

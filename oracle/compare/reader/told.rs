@@ -3,7 +3,7 @@
 use crate::frames::{FRAME, LONGEST};
 use crate::told::{Answer, Flag};
 
-/// The bytes on either side of lent frames, one half before and one behind.
+/// The bytes on either side of what is lent, one half before and one behind.
 pub const FENCE: [u8; 32] = *b"not ours to write, nor to read!!";
 
 #[derive(Clone, Copy, Debug, PartialEq)]

@@ -14,64 +14,50 @@ Inv-loop frames₀ buffer₀ input₀ turns₀ more₀ frames buffer input turns
 abbrev μ-loop : tie.MeasureT-loop
 μ-loop frames₀ buffer₀ input₀ turns₀ more₀ frames buffer input turns more = turns
 
--- src/main.rt:12:9
 begin-requires : tie.Need-begin-requires Inv-loop μ-loop
 begin-requires c κs = search needs
 
--- src/main.rt:15:5
 loop-holds : tie.Need-loop-holds Inv-loop μ-loop
 loop-holds c = rw (c .begin .ensures) (so-begun _, refl)
 
--- src/main.rt:16:13
 read-requires : tie.Need-read-requires Inv-loop μ-loop
 read-requires c κs = search needs
 
--- src/main.rt:17:13
 count-requires : tie.Need-count-requires Inv-loop μ-loop
 count-requires c κs = search needs
 
--- src/main.rt:18:44
 slice-reshare-prefix-push : tie.Need-slice-reshare-prefix-push Inv-loop μ-loop
 slice-reshare-prefix-push c = search needs
 
--- src/main.rt:18:44
 slice-aggregate-push : tie.Need-slice-aggregate-push Inv-loop μ-loop
 slice-aggregate-push c = search needs
 
--- src/main.rt:18:9
 push-requires : tie.Need-push-requires Inv-loop μ-loop
 push-requires c κs = search needs
 
--- src/main.rt:20:9
 sub-turns : tie.Need-sub-turns Inv-loop μ-loop
 sub-turns c = search needs
 
--- src/main.rt:15:5
 loop-less : tie.Need-loop-less Inv-loop μ-loop
 loop-less c =
     let t = c .before .before .before .before .before .before .before .before .before in
     omega (arith, ltb-true 0 (t .before .before .loop .turns) (t .if1 .taken))
 
--- src/main.rt:15:5
 loop-again : tie.Need-loop-again Inv-loop μ-loop
 loop-again c =
     let t = c .before .before .before .before .before .before .before .before .before in
     let l : length (t .before .before .loop .buffer) ≡ length (t .before .before .before .before .before .args .buffer .now) = t .before .before .loop .inv .1 in
     (so-next _ _ _ _ _ _ (t .before .before .loop .inv .0) (c .push .ensures), search (needs, l))
 
--- src/main.rt:9:1
 same-length : tie.Need-same-length Inv-loop μ-loop
 same-length c = search needs
 
--- src/main.rt:9:1
 returns : tie.Need-returns Inv-loop μ-loop
 returns c = so-printed _ _ _ (c .before .before .loop .inv .0)
 
--- src/main.rt:9:1
 same-length-2 : tie.Need-same-length-2 Inv-loop μ-loop
 same-length-2 c = search needs
 
--- src/main.rt:9:1
 returns-2 : tie.Need-returns-2 Inv-loop μ-loop
 returns-2 c = so-printed _ _ _ (c .before .loop .inv .0)
 

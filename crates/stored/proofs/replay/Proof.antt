@@ -4,7 +4,8 @@ use mathlib.Core.Path.{_≡_, refl, sym, ap, _∙_}
 use Prim.Native.Nat.{_≤_, _-_}
 use lib.ListN.{length, getD, take}
 use lib.Seq.{take-all}
-use Rattle.stored.specs.Replays.{Seen, nothing, next, readOn, seen, Bounds}
+use Rattle.stored.specs.Replays.{Seen, nothing, next, readOn}
+use Rattle.stored.specs.Steps.{seen, Bounds}
 use Rattle.stored.proofs.Walk.{read-next}
 use Rattle.stored.proofs.replay.Statement.{statement}
 use Rattle.stored.proofs.replay.Tie as tie

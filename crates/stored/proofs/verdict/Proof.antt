@@ -1,4 +1,3 @@
-use borrow.Author.Needs.{needs}
 use mathlib.Core.Path.{sym, _∙_}
 use Rattle.stored.proofs.Walk.{verdict-comment, verdict-end, verdict-holds, verdict-fails}
 use Rattle.stored.proofs.verdict.Statement.{statement}

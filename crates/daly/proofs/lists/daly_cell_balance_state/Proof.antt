@@ -3,19 +3,15 @@ use borrow.Author.Needs.{needs}
 use Rattle.daly.proofs.lists.daly_cell_balance_state.Statement.{statement}
 use Rattle.daly.proofs.lists.daly_cell_balance_state.Tie as tie
 
--- src/lists.rt:72:10
 decode-cell-balance-state-requires : tie.Need-decode-cell-balance-state-requires
 decode-cell-balance-state-requires c κs = search needs
 
--- src/lists.rt:72:5
 told-requires : tie.Need-told-requires
 told-requires c κs = search needs
 
--- src/lists.rt:64:1
 same-length : tie.Need-same-length
 same-length c = search needs
 
--- src/lists.rt:64:1
 returns : tie.Need-returns
 returns c = tells (c .before .before .before .decode-cell-balance-state .ensures) (c .told .ensures)
 

@@ -3,19 +3,15 @@ use borrow.Author.Needs.{needs}
 use Rattle.daly.proofs.lists.daly_cell_millivolts.Statement.{statement}
 use Rattle.daly.proofs.lists.daly_cell_millivolts.Tie as tie
 
--- src/lists.rt:50:10
 decode-cell-millivolts-requires : tie.Need-decode-cell-millivolts-requires
 decode-cell-millivolts-requires c κs = search needs
 
--- src/lists.rt:50:5
 told-requires : tie.Need-told-requires
 told-requires c κs = search needs
 
--- src/lists.rt:46:1
 same-length : tie.Need-same-length
 same-length c = search needs
 
--- src/lists.rt:46:1
 returns : tie.Need-returns
 returns c = tells (c .before .before .before .decode-cell-millivolts .ensures) (c .told .ensures)
 

@@ -3,19 +3,15 @@ use borrow.Author.Needs.{needs}
 use Rattle.daly.proofs.lists.daly_error_codes.Statement.{statement}
 use Rattle.daly.proofs.lists.daly_error_codes.Tie as tie
 
--- src/lists.rt:80:10
 decode-error-codes-requires : tie.Need-decode-error-codes-requires
 decode-error-codes-requires c κs = search needs
 
--- src/lists.rt:80:5
 told-requires : tie.Need-told-requires
 told-requires c κs = search needs
 
--- src/lists.rt:76:1
 same-length : tie.Need-same-length
 same-length c = search needs
 
--- src/lists.rt:76:1
 returns : tie.Need-returns
 returns c = tells (c .before .before .before .decode-error-codes .ensures) (c .told .ensures)
 

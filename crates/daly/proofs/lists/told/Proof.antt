@@ -2,23 +2,18 @@ use borrow.Author.Needs.{needs}
 use Rattle.daly.proofs.lists.told.Statement.{statement}
 use Rattle.daly.proofs.lists.told.Tie as tie
 
--- src/lists.rt:17:24
 enum-known-listed : tie.Need-enum-known-listed
 enum-known-listed c = search needs
 
--- src/lists.rt:18:27
 enum-known-listed-2 : tie.Need-enum-known-listed-2
 enum-known-listed-2 c = search needs
 
--- src/lists.rt:19:21
 number-requires : tie.Need-number-requires
 number-requires c κs = search needs
 
--- src/lists.rt:13:1
 returns : tie.Need-returns
 returns c = simp (c .before .listed .given .1)
 
--- src/lists.rt:13:1
 returns-2 : tie.Need-returns-2
 returns-2 c = simp (c .before .before .listed2 .given .1, c .number .ensures)
 

@@ -7,30 +7,24 @@ use borrow.Author.Needs.{needs}
 use Rattle.daly.proofs.packs.daly_pack_check.Statement.{statement}
 use Rattle.daly.proofs.packs.daly_pack_check.Tie as tie
 
--- src/packs.rt:18:11
 pack-check-requires : tie.Need-pack-check-requires
 pack-check-requires c κs = search needs
 
--- src/packs.rt:19:33
 enum-known-check : tie.Need-enum-known-check
 enum-known-check c = search needs
 
--- src/packs.rt:24:33
 enum-known-refusal : tie.Need-enum-known-refusal
 enum-known-refusal c = search needs
 
--- src/packs.rt:25:21
 number-requires : tie.Need-number-requires
 number-requires c κs = search needs
 
--- src/packs.rt:14:1
 returns : tie.Need-returns
 returns c =
     let s : SFits w32 (c .before .before .check .given .0 .0 .difference) = search needs in
     simp (toZ-ofZ s)
     (ap packTold (sym (c .before .before .check .given .1) ∙ c .before .before .before .before .pack-check .ensures))
 
--- src/packs.rt:14:1
 returns-2 : tie.Need-returns-2
 returns-2 c =
     rw (c .number .ensures)

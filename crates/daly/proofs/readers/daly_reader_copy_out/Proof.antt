@@ -3,19 +3,15 @@ use Rattle.daly.proofs.Told.{tells}
 use Rattle.daly.proofs.readers.daly_reader_copy_out.Statement.{statement}
 use Rattle.daly.proofs.readers.daly_reader_copy_out.Tie as tie
 
--- src/readers.rt:68:10
 copy-out-requires : tie.Need-copy-out-requires
 copy-out-requires c κs = search needs
 
--- src/readers.rt:68:5
 told-requires : tie.Need-told-requires
 told-requires c κs = search needs
 
--- src/readers.rt:64:1
 same-length : tie.Need-same-length
 same-length c = search needs
 
--- src/readers.rt:64:1
 returns : tie.Need-returns
 returns c = tells (c .before .before .before .copy-out .ensures) (c .told .ensures)
 

@@ -4,27 +4,21 @@ use borrow.Author.Needs.{needs}
 use Rattle.daly.proofs.readings.daly_cell_voltage_range.Statement.{statement}
 use Rattle.daly.proofs.readings.daly_cell_voltage_range.Tie as tie
 
--- src/readings.rt:165:11
 decode-requires : tie.Need-decode-requires
 decode-requires c κs = search needs
 
--- src/readings.rt:166:55
 enum-known-range : tie.Need-enum-known-range
 enum-known-range c = search needs
 
--- src/readings.rt:173:57
 enum-known-refusal : tie.Need-enum-known-refusal
 enum-known-refusal c = search needs
 
--- src/readings.rt:174:21
 number-requires : tie.Need-number-requires
 number-requires c κs = search needs
 
--- src/readings.rt:161:1
 returns : tie.Need-returns
 returns c = ap cellVoltageRangeTold (sym (c .before .range .given .1) ∙ c .before .before .before .decode .ensures)
 
--- src/readings.rt:161:1
 returns-2 : tie.Need-returns-2
 returns-2 c =
     rw (c .number .ensures)

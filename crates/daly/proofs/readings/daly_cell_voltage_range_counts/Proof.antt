@@ -4,27 +4,21 @@ use borrow.Author.Needs.{needs}
 use Rattle.daly.proofs.readings.daly_cell_voltage_range_counts.Statement.{statement}
 use Rattle.daly.proofs.readings.daly_cell_voltage_range_counts.Tie as tie
 
--- src/readings.rt:187:11
 decode-requires : tie.Need-decode-requires
 decode-requires c κs = search needs
 
--- src/readings.rt:188:67
 enum-known-millivolts : tie.Need-enum-known-millivolts
 enum-known-millivolts c = search needs
 
--- src/readings.rt:196:69
 enum-known-refusal : tie.Need-enum-known-refusal
 enum-known-refusal c = search needs
 
--- src/readings.rt:198:25
 number-requires : tie.Need-number-requires
 number-requires c κs = search needs
 
--- src/readings.rt:183:1
 returns : tie.Need-returns
 returns c = ap cellVoltageRangeCountsTold (sym (c .before .millivolts .given .1) ∙ c .before .before .before .decode .ensures)
 
--- src/readings.rt:183:1
 returns-2 : tie.Need-returns-2
 returns-2 c =
     rw (c .number .ensures)

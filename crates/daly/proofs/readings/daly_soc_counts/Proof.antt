@@ -7,30 +7,24 @@ use borrow.Author.Needs.{needs}
 use Rattle.daly.proofs.readings.daly_soc_counts.Statement.{statement}
 use Rattle.daly.proofs.readings.daly_soc_counts.Tie as tie
 
--- src/readings.rt:145:11
 decode-requires : tie.Need-decode-requires
 decode-requires c κs = search needs
 
--- src/readings.rt:146:41
 enum-known-counts : tie.Need-enum-known-counts
 enum-known-counts c = search needs
 
--- src/readings.rt:152:43
 enum-known-refusal : tie.Need-enum-known-refusal
 enum-known-refusal c = search needs
 
--- src/readings.rt:153:21
 number-requires : tie.Need-number-requires
 number-requires c κs = search needs
 
--- src/readings.rt:141:1
 returns : tie.Need-returns
 returns c =
     let s : SFits w32 (c .before .before .counts .given .0 .0 .current) = search needs in
     simp (toZ-ofZ s)
     (ap socCountsTold (sym (c .before .before .counts .given .1) ∙ c .before .before .before .before .decode .ensures))
 
--- src/readings.rt:141:1
 returns-2 : tie.Need-returns-2
 returns-2 c =
     rw (c .number .ensures)

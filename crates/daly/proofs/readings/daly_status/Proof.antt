@@ -4,33 +4,26 @@ use borrow.Author.Needs.{needs}
 use Rattle.daly.proofs.readings.daly_status.Statement.{statement}
 use Rattle.daly.proofs.readings.daly_status.Tie as tie
 
--- src/readings.rt:309:11
 decode-requires : tie.Need-decode-requires
 decode-requires c κs = search needs
 
--- src/readings.rt:310:35
 enum-known-board : tie.Need-enum-known-board
 enum-known-board c = search needs
 
--- src/readings.rt:310:45
 board-told-requires : tie.Need-board-told-requires
 board-told-requires c κs = search needs
 
--- src/readings.rt:311:37
 enum-known-refusal : tie.Need-enum-known-refusal
 enum-known-refusal c = search needs
 
--- src/readings.rt:312:21
 number-requires : tie.Need-number-requires
 number-requires c κs = search needs
 
--- src/readings.rt:305:1
 returns : tie.Need-returns
 returns c =
     c .board-told .ensures
     ∙ ap statusTold (sym (c .before .before .board .given .1) ∙ c .before .before .before .before .decode .ensures)
 
--- src/readings.rt:305:1
 returns-2 : tie.Need-returns-2
 returns-2 c =
     rw (c .number .ensures)

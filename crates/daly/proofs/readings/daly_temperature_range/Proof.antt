@@ -7,23 +7,18 @@ use borrow.Author.Needs.{needs}
 use Rattle.daly.proofs.readings.daly_temperature_range.Statement.{statement}
 use Rattle.daly.proofs.readings.daly_temperature_range.Tie as tie
 
--- src/readings.rt:211:11
 decode-requires : tie.Need-decode-requires
 decode-requires c κs = search needs
 
--- src/readings.rt:212:55
 enum-known-degrees : tie.Need-enum-known-degrees
 enum-known-degrees c = search needs
 
--- src/readings.rt:219:57
 enum-known-refusal : tie.Need-enum-known-refusal
 enum-known-refusal c = search needs
 
--- src/readings.rt:220:21
 number-requires : tie.Need-number-requires
 number-requires c κs = search needs
 
--- src/readings.rt:207:1
 returns : tie.Need-returns
 returns c =
     let h : SFits w8 (c .before .before .degrees .given .0 .0 .«highest_temperature») = search needs in
@@ -31,7 +26,6 @@ returns c =
     simp (toZ-ofZ h, toZ-ofZ l)
     (ap temperatureRangeTold (sym (c .before .before .degrees .given .1) ∙ c .before .before .before .before .decode .ensures))
 
--- src/readings.rt:207:1
 returns-2 : tie.Need-returns-2
 returns-2 c =
     rw (c .number .ensures)

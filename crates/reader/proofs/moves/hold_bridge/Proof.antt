@@ -6,19 +6,15 @@ use Rattle.reader.proofs.Parts.{held-bridge}
 use Rattle.reader.proofs.moves.hold_bridge.Statement.{statement}
 use Rattle.reader.proofs.moves.hold_bridge.Tie as tie
 
--- src/moves.rt:101:18
 mul-copy : tie.Need-mul-copy
 mul-copy c = search needs
 
--- src/moves.rt:101:5
 copy-requires : tie.Need-copy-requires
 copy-requires c κs = search needs
 
--- src/moves.rt:102:5
 sub-result : tie.Need-sub-result
 sub-result c = search needs
 
--- src/moves.rt:91:1
 returns : tie.Need-returns
 returns c =
     let k = c .before in

@@ -6,26 +6,21 @@ use Rattle.reader.proofs.Judge.{due-sum, due-command, due-one, due-firs
 use Rattle.reader.proofs.scan.discards.Statement.{statement}
 use Rattle.reader.proofs.scan.discards.Tie as tie
 
--- src/scan.rt:51:9
 calc-crc-requires : tie.Need-calc-crc-requires
 calc-crc-requires c κs = search needs
 
--- src/scan.rt:52:8
 shared-slice-read-if1 : tie.Need-shared-slice-read-if1
 shared-slice-read-if1 c = search needs
 
--- src/scan.rt:53:9
 returns : tie.Need-returns
 returns c =
     let k = c .before .before in
     let s = k .before .before in
     let a = s .args in (due-sum (config (a .command) (a .wanted)) (a .have) (a .w .now) (s .pre .0) (λ z. c .if1 .taken (z ∙ sym (k .calc-crc .ensures))), omega arith)
 
--- src/scan.rt:55:8
 shared-slice-read-if2 : tie.Need-shared-slice-read-if2
 shared-slice-read-if2 c = search needs
 
--- src/scan.rt:56:9
 returns-2 : tie.Need-returns-2
 returns-2 c =
     let e = c .before .before in
@@ -33,7 +28,6 @@ returns-2 c =
     let s = k .before .before in
     let a = s .args in (due-command (config (a .command) (a .wanted)) (a .have) (a .w .now) (s .pre .0) (e .if1 .left ∙ k .calc-crc .ensures) (c .if2 .taken), omega arith)
 
--- src/scan.rt:59:9
 returns-3 : tie.Need-returns-3
 returns-3 c =
     let e = c .before .before .before in
@@ -41,11 +35,9 @@ returns-3 c =
     let s = k .before .before in
     let a = s .args in (due-one (config (a .command) (a .wanted)) (a .have) (a .w .now) (s .pre .0) (e .if1 .left ∙ k .calc-crc .ensures) (c .before .if2 .left) (c .if3 .taken), omega arith)
 
--- src/scan.rt:61:18
 shared-slice-read-number : tie.Need-shared-slice-read-number
 shared-slice-read-number c = search needs
 
--- src/scan.rt:63:9
 returns-4 : tie.Need-returns-4
 returns-4 c =
     let o = c .before .before in
@@ -54,15 +46,12 @@ returns-4 c =
     let s = k .before .before in
     let a = s .args in (due-first (config (a .command) (a .wanted)) (a .have) (a .w .now) (s .pre .0) (e .if1 .left ∙ k .calc-crc .ensures) (o .before .if2 .left) (o .if3 .left) (c .if4 .taken), omega arith)
 
--- src/scan.rt:65:19
 add-if5 : tie.Need-add-if5
 add-if5 c = search needs
 
--- src/scan.rt:65:18
 cast-if5 : tie.Need-cast-if5
 cast-if5 c = search needs
 
--- src/scan.rt:66:9
 returns-5 : tie.Need-returns-5
 returns-5 c =
     let f = c .before in
@@ -72,7 +61,6 @@ returns-5 c =
     let s = k .before .before in
     let a = s .args in (due-number (config (a .command) (a .wanted)) (a .have) (a .w .now) (s .pre .0) (e .if1 .left ∙ k .calc-crc .ensures) (o .before .if2 .left) (o .if3 .left) (f .if4 .left) (c .if5 .taken), omega arith)
 
--- src/scan.rt:47:1
 returns-6 : tie.Need-returns-6
 returns-6 c =
     let f = c .before in

@@ -14,31 +14,24 @@ Inv-loop s from i₀ i = (from ≤ i) × (i ≤ length s) × Quiet s from i
 abbrev μ-loop : tie.MeasureT-loop
 μ-loop s from i₀ i = length s - i
 
--- src/scan.rt:66:5
 loop-holds : tie.Need-loop-holds Inv-loop μ-loop
 loop-holds c = let a = c .before .args in (omega arith, omega arith, quiet-none (a .s .now) (a .from))
 
--- src/scan.rt:66:17
 sub-loop : tie.Need-sub-loop Inv-loop μ-loop
 sub-loop c = search needs
 
--- src/scan.rt:67:13
 is-quiet-requires : tie.Need-is-quiet-requires Inv-loop μ-loop
 is-quiet-requires c κs = search needs
 
--- src/scan.rt:68:13
 returns : tie.Need-returns Inv-loop μ-loop
 returns c = search needs
 
--- src/scan.rt:70:9
 add-i : tie.Need-add-i Inv-loop μ-loop
 add-i c = search needs
 
--- src/scan.rt:66:5
 loop-less : tie.Need-loop-less Inv-loop μ-loop
 loop-less c = search needs
 
--- src/scan.rt:66:5
 loop-again : tie.Need-loop-again Inv-loop μ-loop
 loop-again c =
     let q = c .before in
@@ -49,7 +42,6 @@ loop-again c =
       quiet-then (a .s .now) (a .from) (l .i) (l .i + 32) (l .inv .2) (q .is-quiet .ensures (not-false _ (c .if1 .left))),
     )
 
--- src/scan.rt:61:1
 returns-2 : tie.Need-returns-2 Inv-loop μ-loop
 returns-2 c = search needs
 

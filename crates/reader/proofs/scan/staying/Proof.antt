@@ -4,21 +4,17 @@ use Rattle.reader.proofs.Judge.{stay-one, stay-none, stay-all}
 use Rattle.reader.proofs.scan.staying.Statement.{statement}
 use Rattle.reader.proofs.scan.staying.Tie as tie
 
--- src/scan.rt:77:9
 returns : tie.Need-returns
 returns c = let a = c .before .args in (stay-one (a .wanted) (a .w .now) (a .have) (omega (arith, c .if1 .taken)), omega arith)
 
--- src/scan.rt:79:8
 shared-slice-read-if2 : tie.Need-shared-slice-read-if2
 shared-slice-read-if2 c = search needs
 
--- src/scan.rt:80:9
 returns-2 : tie.Need-returns-2
 returns-2 c =
     let e = c .before .before in
     let a = e .before .args in (stay-all (a .wanted) (a .w .now) (a .have) (e .if1 .left) (c .if2 .taken), omega arith)
 
--- src/scan.rt:72:1
 returns-3 : tie.Need-returns-3
 returns-3 c =
     let e = c .before .before in

@@ -65,6 +65,11 @@ pub wrong-number : answer (fresh c95) (f1 ++ f3 ++ f2) ≡ answered c95 0 39 (f1
 unfolding answer bad status push did run turns look judge restarts sumRight sum total after drops stay booked counted complete heldOf untaken
 wrong-number = refl
 
+-- it is 13 though a start byte stands among them: that byte is not held
+pub wrong-number-whole : answer (fresh c95) (f1 ++ (0xA5 ∷ 0x01 ∷ 0x95 ∷ 0x08 ∷ 3 ∷ 0xA5 ∷ 0 ∷ 0 ∷ 0 ∷ 0 ∷ 0 ∷ 0 ∷ 0xEB ∷ [])) ≡ answered c95 0 26 (f1 ∷ []) [] 26 13 0 false
+unfolding answer bad status push did run turns look judge restarts sumRight sum total after drops stay booked counted complete heldOf untaken
+wrong-number-whole = refl
+
 -- twelve bytes are held
 pub twelve : answer (fresh c90) (replicate 12 0xA5) ≡ answered c90 0 12 [] (replicate 12 0xA5) 12 0 0 false
 unfolding answer bad status push did run turns look judge restarts sumRight sum total after drops stay booked counted complete heldOf untaken

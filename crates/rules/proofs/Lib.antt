@@ -7,3 +7,4 @@ pub mod Good
 pub mod Demand
 pub mod Restart
 pub mod Examples
+pub mod Questions

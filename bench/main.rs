@@ -9,6 +9,7 @@ use dalybms_lib::protocol::*;
 use frames::reply;
 use std::hint::black_box;
 use std::process::ExitCode;
+use std::sync::OnceLock;
 use std::time::Instant;
 
 const ROUNDS: usize = 41;
@@ -86,11 +87,38 @@ fn timed(call: &mut dyn FnMut()) -> f64 {
     began.elapsed().as_nanos() as f64 / f64::from(CALLS)
 }
 
+/// What is to be done with each call: both sides timed, its name printed, or one side of one call run.
+enum Task {
+    Time,
+    Name,
+    Run { call: String, rust: bool },
+}
+
+static TASK: OnceLock<Task> = OnceLock::new();
+
+/// The calls of one side, for a tool that counts instructions between entry and exit.
+#[inline(never)]
+fn counted_calls(call: &mut dyn FnMut()) {
+    for _ in 0..CALLS {
+        call();
+    }
+}
+
 fn compare(name: &str, mut rust: impl FnMut(), mut port: impl FnMut()) {
+    match TASK.get() {
+        Some(Task::Name) => println!("{name}"),
+        Some(Task::Run { call, rust: true }) if call == name => counted_calls(&mut rust),
+        Some(Task::Run { call, rust: false }) if call == name => counted_calls(&mut port),
+        Some(Task::Run { .. }) => {}
+        _ => time_both(name, &mut rust, &mut port),
+    }
+}
+
+fn time_both(name: &str, rust: &mut dyn FnMut(), port: &mut dyn FnMut()) {
     let (mut best_rust, mut best_port) = (f64::MAX, f64::MAX);
     for _ in 0..ROUNDS {
-        best_rust = best_rust.min(timed(&mut rust));
-        best_port = best_port.min(timed(&mut port));
+        best_rust = best_rust.min(timed(rust));
+        best_port = best_port.min(timed(port));
     }
     let ratio = best_port / best_rust;
     println!("{name:<28} {best_rust:>9.1} {best_port:>9.1} {ratio:>7.2}");
@@ -246,15 +274,20 @@ fn bits() {
     );
 }
 
+fn all_calls(task: Task) {
+    TASK.get_or_init(|| task);
+    requests();
+    one_frame();
+    numbered();
+    bits();
+}
+
 fn calls() {
     println!(
         "{:<28} {:>9} {:>9} {:>7}",
         "nanoseconds a call", "Rust", "port", "ratio"
     );
-    requests();
-    one_frame();
-    numbered();
-    bits();
+    all_calls(Task::Time);
 }
 
 fn main() -> ExitCode {
@@ -271,9 +304,17 @@ fn main() -> ExitCode {
         Some("reader") => reader::table(),
         Some("flat") => reader::flat(),
         Some("names") => reader::names(),
+        Some("call-names") => {
+            println!("{CALLS}");
+            all_calls(Task::Name);
+        }
+        Some("call") if words.len() == 3 => all_calls(Task::Run {
+            call: words[1].clone(),
+            rust: words[2] == "rust",
+        }),
         Some("one") if reader::one(&words[1..]).is_some() => {}
         _ => {
-            eprintln!("bench: calls, reader, flat, names, or one NAME FORM SIZE");
+            eprintln!("bench: calls, reader, flat, names, one NAME FORM SIZE, call-names, or call NAME rust|port");
             return ExitCode::FAILURE;
         }
     }

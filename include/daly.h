@@ -209,7 +209,10 @@ struct daly_counts {
     size_t held;        /* bytes */
 };
 
-/* The collected frames stand at the front of `frames`, the held bytes behind them. */
+/*
+ * The collected frames stand at the front of `frames`, the held bytes behind them. 1,152 bytes, aligned to 8:
+ * the counts at 0, in 40 bytes, the frames at 40, then 7 of padding.
+ */
 struct daly_reader {
     struct daly_counts counts;
     uint8_t frames[DALY_FRAMES];

@@ -40,6 +40,11 @@ pub wrong-command : answer (fresh c90) (0xA5 ∷ 0x01 ∷ 0x91 ∷ 0x08 ∷ 0x76
 unfolding answer bad status push did run turns look judge restarts sumRight sum total after drops stay booked counted complete heldOf untaken
 wrong-command = refl
 
+-- and no more than 13: the wanted frame right behind it is collected
+pub wrong-command-next : answer (fresh c90) (0xA5 ∷ 0x01 ∷ 0x91 ∷ 0x08 ∷ 0 ∷ 0 ∷ 0 ∷ 0 ∷ 0 ∷ 0 ∷ 0 ∷ 0 ∷ 0x3F ∷ frame90) ≡ answered c90 0 26 (frame90 ∷ []) [] 26 13 0 false
+unfolding answer bad status push did run turns look judge restarts sumRight sum total after drops stay booked counted complete heldOf untaken
+wrong-command-next = refl
+
 abbrev pub numbered : ℕ → ℕ → List ℕ
 numbered i s = 0xA5 ∷ 0x01 ∷ 0x95 ∷ 0x08 ∷ i ∷ 0 ∷ 0 ∷ 0 ∷ 0 ∷ 0 ∷ 0 ∷ 0 ∷ s ∷ []
 
@@ -69,6 +74,27 @@ wrong-number = refl
 pub wrong-number-whole : answer (fresh c95) (f1 ++ (0xA5 ∷ 0x01 ∷ 0x95 ∷ 0x08 ∷ 3 ∷ 0xA5 ∷ 0 ∷ 0 ∷ 0 ∷ 0 ∷ 0 ∷ 0 ∷ 0xEB ∷ [])) ≡ answered c95 0 26 (f1 ∷ []) [] 26 13 0 false
 unfolding answer bad status push did run turns look judge restarts sumRight sum total after drops stay booked counted complete heldOf untaken
 wrong-number-whole = refl
+
+abbrev c95-two : Config
+c95-two = record { command = 0x95; wanted = 2 }
+
+-- with two frames wanted the number is read, too: one that begins again, and one that is wrong
+pub two-again : answer (fresh c95-two) (f1 ++ f1 ++ f2) ≡ answered c95-two 0 39 (f1 ∷ f2 ∷ []) [] 39 0 1 false
+unfolding answer bad status push did run turns look judge restarts sumRight sum total after drops stay booked counted complete heldOf untaken
+two-again = refl
+
+pub two-wrong : answer (fresh c95-two) (f1 ++ f3) ≡ answered c95-two 0 26 (f1 ∷ []) [] 26 13 0 false
+unfolding answer bad status push did run turns look judge restarts sumRight sum total after drops stay booked counted complete heldOf untaken
+two-wrong = refl
+
+-- "Counts .. wrap modulo 2^32": bytes taken and discarded, then frames cleared; the mark stays
+pub wraps : answer (answered c90 0 0 [] [] 4294967295 4294967295 0 true .reader) (0 ∷ []) ≡ answered c90 2 1 [] [] 0 0 0 true
+unfolding answer bad status push did run turns look judge restarts sumRight sum total after drops stay booked counted complete heldOf untaken
+wraps = refl
+
+pub wraps-cleared : answer (answered c95 0 0 (f1 ∷ []) [] 13 0 4294967295 false .reader) f1 ≡ answered c95 0 13 (f1 ∷ []) [] 26 0 0 false
+unfolding answer bad status push did run turns look judge restarts sumRight sum total after drops stay booked counted complete heldOf untaken
+wraps-cleared = refl
 
 -- twelve bytes are held
 pub twelve : answer (fresh c90) (replicate 12 0xA5) ≡ answered c90 0 12 [] (replicate 12 0xA5) 12 0 0 false

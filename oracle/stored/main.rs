@@ -1,4 +1,4 @@
-//! Writes the list that the program `replay` replays: questions, and what the Rust answers to them.
+//! Writes the list that tools/replay.c replays: questions, and what the Rust answers to them.
 
 // Of the comparison's files, only what makes questions and asks the Rust is used.
 #![allow(dead_code)]
@@ -19,7 +19,7 @@ mod told;
 use std::fmt::Write;
 
 const SEED: u64 = 20_261_115;
-/// What `replay` takes for one line, without its end.
+/// What tools/replay.c takes for one line, without its end.
 const LONGEST_LINE: usize = 8192;
 
 const HEAD: &str = "\

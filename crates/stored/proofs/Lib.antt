@@ -1,4 +1,0 @@
-pub mod Bytes
-pub mod Walk
-pub mod Round
-pub mod Decided

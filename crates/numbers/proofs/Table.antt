@@ -18,7 +18,7 @@ use Rattle.rules.specs.Rules.{sumRight, restarts, judge, look, stay, after, dro
 use Rattle.rules.specs.Ledger.{turns, run, total as counted}
 use Rattle.rules.specs.Reader.{complete, heldOf, untaken, did, booked, push, status, bad, answer, completeness}
 use Rattle.pack.specs.Pack.{difference, packAnswer}
-use Rattle.table.specs.Numbers.{Numbers, soc, cells, read, weighed}
+use Rattle.numbers.specs.Numbers.{Numbers, soc, cells, read, weighed}
 
 p1-frame : frame 0x40 0x90 (0 ∷ 0 ∷ 0 ∷ 0 ∷ 0 ∷ 0 ∷ 0 ∷ 0 ∷ []) ≡ 0xA5 ∷ 0x40 ∷ 0x90 ∷ 0x08 ∷ 0 ∷ 0 ∷ 0 ∷ 0 ∷ 0 ∷ 0 ∷ 0 ∷ 0 ∷ 0x7D ∷ []
 unfolding frame summed sum total

@@ -382,6 +382,7 @@ static struct found replay(struct bytes list)
     return found;
 }
 
+/* A list that asks nothing shows nothing. */
 static int tell(struct found found)
 {
     printf("%zu answers of the Rust: %zu hold\n", found.lines, found.held);
@@ -389,7 +390,7 @@ static int tell(struct found found)
         printf("line %zu does not hold\n", found.first);
     if (!found.whole)
         printf("the list's sum is wrong\n");
-    return found.first == 0 && found.whole ? HOLDS : DOES_NOT_HOLD;
+    return found.lines > 0 && found.first == 0 && found.whole ? HOLDS : DOES_NOT_HOLD;
 }
 
 /* A list that fills the room may be longer, and is not cut. */

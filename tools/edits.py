@@ -99,10 +99,11 @@ FOLLOWS = re.compile(r"was not admitted")
 FACTS = re.compile("|".join([
     r"`omega`: .*does not follow from what it read",
     r"`search`: no proof of `",
-    r"`(?:simp|rw)`: no equation of the list has an instance in the goal",
+    r"`(?:simp|rw)`: no (?:equation of the list has an instance|occurrence of the path's (?:left|right) endpoint) in the (?:goal|hypothesis's type)",
     r"`(?:simp|rw)` has no last argument, so what it leaves must be a path whose two ends are equal, and ",
-    r"the two types (?:first differ|differ only) where one has `",
-    r"expected type `.*`, but this has type `",
+    r"the two (?:types|values) (?:first differ|differ only) where one has `",
+    r"expected type `.*`,? but this has type `",
+    r"` ≟ `.*`:? does not hold",
 ]))
 # In the same wordings the prover says that an edit left names or forms which do not fit: nothing was to be proved.
 UNFIT = [

@@ -15,7 +15,7 @@ request-frame-requires : tie.Need-request-frame-requires
 request-frame-requires c κs = search needs
 
 returns : tie.Need-returns
-returns c = cc
+returns c = rw (← c .before .before .before .set-soc-count .ensures, ← c .before .before .high-byte .ensures, ← c .before .low-byte .ensures) (c .request-frame .ensures)
 
 pub set-soc-spec : {M : Type 1} → statement M
 set-soc-spec =

@@ -121,7 +121,7 @@ fn time_both(name: &str, rust: &mut dyn FnMut(), port: &mut dyn FnMut()) {
         best_port = best_port.min(timed(port));
     }
     let ratio = best_port / best_rust;
-    println!("{name:<28} {best_rust:>9.1} {best_port:>9.1} {ratio:>7.2}");
+    println!("| {name:<28} | {best_rust:>6.1} | {best_port:>6.1} | {ratio:.2} |");
 }
 
 fn request(name: &str, command: u8, rust: impl Fn() -> Vec<u8>) {
@@ -283,10 +283,7 @@ fn all_calls(task: Task) {
 }
 
 fn calls() {
-    println!(
-        "{:<28} {:>9} {:>9} {:>7}",
-        "nanoseconds a call", "Rust", "port", "ratio"
-    );
+    println!("| nanoseconds a call | Rust | port | ratio |\n|---|---|---|---|");
     all_calls(Task::Time);
 }
 

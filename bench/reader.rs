@@ -294,24 +294,32 @@ fn row(case: &Case, size: usize, rounds: usize) {
         .chain(FORMS.map(|(_, form)| form))
         .collect();
     let ns = case.timed(size, &forms, rounds);
-    print!("{:<22} {size:>8} {:>9.2}", case.name, ns[0]);
+    print!("| {:<18} | {size:>7} | {:>8.2} |", case.name, ns[0]);
     for ours in &ns[1..] {
         let ratio = ours / ns[0];
         let digits = if ratio < 0.01 { 5 } else { 2 };
-        print!(" {ratio:>9.digits$}");
+        print!(" {ratio:>7.digits$} |");
     }
     println!();
 }
 
-pub fn table() {
-    print!(
-        "{:<22} {:>8} {:>9}",
-        "reader: ratio to Rust", "chunk", "Rust ns/B"
+/// A table's head: these columns and one for each of some sizes or forms.
+fn head(first: &[&str], more: impl Iterator<Item = String>) {
+    let columns: Vec<String> = first
+        .iter()
+        .map(|name| name.to_string())
+        .chain(more)
+        .collect();
+    println!(
+        "| {} |\n|{}",
+        columns.join(" | "),
+        "---|".repeat(columns.len())
     );
-    for (name, _) in FORMS {
-        print!(" {name:>9}");
-    }
-    println!();
+}
+
+pub fn table() {
+    let forms = FORMS.iter().map(|(name, _)| name.to_string());
+    head(&["stream", "chunk", "Rust, ns a byte"], forms);
     let long = cases(MIB);
     for (case, long) in cases(STREAM).iter().zip(&long) {
         for size in [1, 13, 64, ROOM, 4 * KIB] {
@@ -324,15 +332,12 @@ pub fn table() {
 /// The port alone, over ever longer chunks: the cost of a byte must not grow.
 pub fn flat() {
     let sizes = [KIB, 16 * KIB, 256 * KIB, MIB, 4 * MIB, 16 * MIB];
-    print!("{:<22}", "port: ns a byte");
-    for size in sizes {
-        print!(" {:>6} KiB", size / KIB);
-    }
-    println!();
+    let names = sizes.iter().map(|size| format!("{} KiB", size / KIB));
+    head(&["port, ns a byte"], names);
     for case in cases(16 * MIB) {
-        print!("{:<22}", case.name);
+        print!("| {:<18} |", case.name);
         for size in sizes {
-            print!(" {:>10.3}", case.timed(size, &[Case::in_place], ROUNDS)[0]);
+            print!(" {:.3} |", case.timed(size, &[Case::in_place], ROUNDS)[0]);
         }
         println!();
     }

@@ -1,6 +1,8 @@
--- Document 01's P9 and P10, and the order of refusals of a 97 and a 98 reply, over the definitions that the contracts cite. Assumes nothing.
+-- Document 01's P9 and P10, the order of refusals of a 97 and a 98 reply, and which bit is what, over the definitions that the contracts
+-- cite. Assumes nothing.
 use mathlib.Core.Path.{_≡_, refl}
 use Prim.Native.Nat.{ℕ}
+use mathlib.Core.Bool.{true, false}
 use mathlib.Core.List.{List, [], _∷_, _++_, map}
 use lib.ListN.{take, length}
 use Rattle.wire.specs.Lists.{firsts}
@@ -54,3 +56,32 @@ examples :
     ∷ [])
 unfolding total sum summed frame sumOf lenCheck headerCheck checksumCheck frameCheck gate faults
 examples = refl
+
+-- a 98 reply with these data bytes
+abbrev told : List ℕ → List ℕ
+told bytes = faults (frame 1 0x98 bytes)
+
+-- the lowest and the highest bit of each of bytes 4 to 6, as docs/FAULTS.md has them from the Rust
+low-bytes :
+    told (0x81 ∷ 0 ∷ 0 ∷ 0 ∷ 0 ∷ 0 ∷ 0 ∷ 0 ∷ []) ∷ told (0 ∷ 0x81 ∷ 0 ∷ 0 ∷ 0 ∷ 0 ∷ 0 ∷ 0 ∷ []) ∷ told (0 ∷ 0 ∷ 0x81 ∷ 0 ∷ 0 ∷ 0 ∷ 0 ∷ 0 ∷ []) ∷ []
+    ≡ (0 ∷ 7 ∷ []) ∷ (8 ∷ 15 ∷ []) ∷ (16 ∷ 23 ∷ []) ∷ []
+unfolding frame summed sum total faults
+low-bytes = refl
+
+-- of bytes 7 to 11, whose bits 4 to 7 in bytes 7 and 10 and all of byte 11 are no faults
+high-bytes :
+    told (0 ∷ 0 ∷ 0 ∷ 0xF9 ∷ 0 ∷ 0 ∷ 0 ∷ 0 ∷ [])
+    ∷ told (0 ∷ 0 ∷ 0 ∷ 0 ∷ 0x81 ∷ 0 ∷ 0 ∷ 0 ∷ [])
+    ∷ told (0 ∷ 0 ∷ 0 ∷ 0 ∷ 0 ∷ 0x81 ∷ 0 ∷ 0 ∷ [])
+    ∷ told (0 ∷ 0 ∷ 0 ∷ 0 ∷ 0 ∷ 0 ∷ 0xF9 ∷ 0 ∷ [])
+    ∷ told (0 ∷ 0 ∷ 0 ∷ 0 ∷ 0 ∷ 0 ∷ 0 ∷ 0xFF ∷ [])
+    ∷ []
+    ≡ (24 ∷ 27 ∷ []) ∷ (28 ∷ 35 ∷ []) ∷ (36 ∷ 43 ∷ []) ∷ (44 ∷ 47 ∷ []) ∷ [] ∷ []
+unfolding frame summed sum total faults
+high-bytes = refl
+
+-- "48 flags from byte 4, lowest bit first": flags 0, 7, 8, 9, 23, 24, 46 and 47, where the bits of 0, 8, 23 and 47 are set
+flags-at : map (flagAt (frame 1 0x97 (0x01 ∷ 0x01 ∷ 0x80 ∷ 0 ∷ 0 ∷ 0x80 ∷ 0 ∷ 0 ∷ []))) (0 ∷ 7 ∷ 8 ∷ 9 ∷ 23 ∷ 24 ∷ 46 ∷ 47 ∷ [])
+    ≡ true ∷ false ∷ true ∷ false ∷ true ∷ false ∷ false ∷ true ∷ []
+unfolding frame summed sum total
+flags-at = refl

@@ -4,6 +4,7 @@ use Prim.Native.Nat.{ℕ}
 use mathlib.Core.Bool.{true, false}
 use mathlib.Core.List.{List, [], _∷_, _++_, map}
 use lib.ListN.{take}
+use lib.Ieee.{binary32, ofBits, ofInt, div}
 use Rattle.frame.specs.declared.Refusal.the-variants.{UnknownMode}
 use Rattle.frame.specs.Refusals.{checkNumber}
 use Rattle.frame.specs.Frame.{frame}
@@ -12,7 +13,8 @@ use Rattle.mosfet_status.specs.declared.MosfetMode.{MosfetMode}
 use Rattle.mosfet_status.specs.declared.MosfetMode.the-variants.{Stationary, Charging, Discharging}
 use Rattle.mosfet_status.specs.declared.MosfetStatusCountsAnswer.{MosfetStatusCountsAnswer}
 use Rattle.mosfet_status.specs.declared.MosfetStatusCountsAnswer.the-variants.{MosfetStatusCountsGiven, MosfetStatusCountsRefused}
-use Rattle.mosfet_status.specs.MosfetStatus.{mosfetCheck, decodedMosfetStatusCounts}
+use Rattle.mosfet_status.specs.declared.MosfetStatusAnswer.the-variants.{MosfetStatusGiven}
+use Rattle.mosfet_status.specs.MosfetStatus.{modeNumber, mosfetCheck, decodedMosfetStatusCounts, decodedMosfetStatus}
 
 -- a reply to a command with this mode: charging on, discharging off, 7 cycles, 100,000
 reply : ℕ → ℕ → List ℕ
@@ -34,3 +36,12 @@ orders : map (λ s. checkNumber (mosfetCheck s))
     ≡ 0 ∷ 5 ∷ 3 ∷ 2 ∷ 1 ∷ []
 unfolding reply frame mosfetCheck frameCheck
 orders = refl
+
+mode-numbers : map modeNumber (Stationary ∷ Charging ∷ Discharging ∷ []) ≡ 0 ∷ 1 ∷ 2 ∷ []
+mode-numbers = refl
+
+-- 100,000 thousandths are 100.0 as the Rust's f32
+record-93 : decodedMosfetStatus (reply 0x93 1)
+    ≡ MosfetStatusGiven (record { mode = Charging; «charging_mosfet» = true; «discharging_mosfet» = false; «bms_cycles» = 7; «capacity_ah» = ofBits binary32 0x42C8_0000 })
+unfolding reply frame mosfetCheck frameCheck ofInt div ofBits
+record-93 = refl

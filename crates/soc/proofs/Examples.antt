@@ -1,13 +1,15 @@
--- Document 01's P6, over the definitions that the contracts cite. Assumes nothing.
+-- Document 01's P6, and its record to the last bit, over the definitions that the contracts cite. Assumes nothing.
 use mathlib.Core.Path.{_≡_, refl}
 use Prim.Native.Nat.{ℕ}
 use mathlib.Core.List.{List, [], _∷_, map}
 use lib.IntN.{pos, negℤ}
+use lib.Ieee.{binary32, ofBits, ofInt, div}
 use Rattle.frame.specs.declared.Refusal.the-variants.{CheckSumError}
 use Rattle.frame.specs.Refusals.{checkNumber}
 use Rattle.frame.specs.Checks.{frameCheck}
 use Rattle.soc.specs.declared.SocCountsAnswer.the-variants.{SocCountsGiven, SocCountsRefused}
-use Rattle.soc.specs.Soc.{decodedSocCounts}
+use Rattle.soc.specs.declared.SocAnswer.the-variants.{SocGiven, SocRefused}
+use Rattle.soc.specs.Soc.{decodedSocCounts, decodedSoc}
 
 -- P6: the frame, and the frame with a 00 appended
 replies90 : List (List ℕ)
@@ -27,3 +29,11 @@ p6 = refl
 p6-numbers : map (λ s. checkNumber (frameCheck 0x90 s)) replies90 ≡ 0 ∷ 3 ∷ []
 unfolding replies90 frameCheck
 p6-numbers = refl
+
+-- 52.3, −12.1 and 87.4 as the Rust's f32
+record-90 : map decodedSoc replies90
+    ≡ SocGiven (record { «total_voltage» = ofBits binary32 0x4251_3333; current = ofBits binary32 0xC141_999A; «soc_percent» = ofBits binary32 0x42AE_CCCD })
+    ∷ SocRefused CheckSumError
+    ∷ []
+unfolding replies90 frameCheck ofInt div ofBits
+record-90 = refl

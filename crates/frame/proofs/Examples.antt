@@ -1,0 +1,41 @@
+-- Worked answers of module 1 at its edges. Assumes nothing.
+use Prim.Native.Nat.{ℕ}
+use mathlib.Core.Path.{_≡_, refl}
+use mathlib.Core.List.{List, [], _∷_, map}
+use lib.ListN.{replicate}
+use Rattle.frame.specs.declared.Refusal.the-variants.{ReplySizeError, UnexpectedFrame, CheckSumError, FrameNoError, UnknownMode, ReplyTooLong, RequestTooShort, BadState, NoRoom, UnknownCommand, CountTooLarge}
+use Rattle.frame.specs.Frame.{sum, total}
+use Rattle.frame.specs.Refusals.{refusalNumber, checkNumber}
+use Rattle.frame.specs.Checks.{sumOf, framePart, partCheck}
+
+-- document 01's table of refusals
+numbers :
+    map refusalNumber
+    (ReplySizeError ∷ UnexpectedFrame ∷ CheckSumError ∷ FrameNoError ∷ UnknownMode ∷ ReplyTooLong ∷ RequestTooShort ∷ BadState ∷ NoRoom ∷ UnknownCommand ∷ CountTooLarge ∷ [])
+    ≡ 1 ∷ 2 ∷ 3 ∷ 4 ∷ 5 ∷ 6 ∷ 7 ∷ 8 ∷ 9 ∷ 10 ∷ 11 ∷ []
+numbers = refl
+
+-- "the sum of a buffer of 0 or 1 bytes is 0"; of more, all bytes but the last, modulo 256
+sums : map sumOf ([] ∷ (7 ∷ []) ∷ (7 ∷ 9 ∷ []) ∷ (200 ∷ 100 ∷ 1 ∷ []) ∷ []) ≡ 0 ∷ 0 ∷ 7 ∷ 44 ∷ []
+unfolding sumOf sum total
+sums = refl
+
+-- two full frames and 12 bytes more
+buffer : List ℕ
+buffer =
+    1 ∷ 1 ∷ 1 ∷ 1 ∷ 1 ∷ 1 ∷ 1 ∷ 1 ∷ 1 ∷ 1 ∷ 1 ∷ 1 ∷ 1
+    ∷ 2 ∷ 2 ∷ 2 ∷ 2 ∷ 2 ∷ 2 ∷ 2 ∷ 2 ∷ 2 ∷ 2 ∷ 2 ∷ 2 ∷ 2
+    ∷ replicate 12 3
+
+-- "Finding frame k, counted from 0, hands back that part"; "a k outside the buffer's full frames is refusal 1", the part is then empty
+parts : map (framePart buffer) (0 ∷ 1 ∷ 2 ∷ 3 ∷ []) ≡ replicate 13 1 ∷ replicate 13 2 ∷ [] ∷ [] ∷ []
+unfolding buffer
+parts = refl
+
+part-numbers : map (λ (k : ℕ). checkNumber (partCheck buffer k)) (0 ∷ 1 ∷ 2 ∷ 3 ∷ []) ≡ 0 ∷ 0 ∷ 1 ∷ 1 ∷ []
+unfolding buffer
+part-numbers = refl
+
+-- 12 bytes have no frame, 13 have one
+least : map (λ (n : ℕ). checkNumber (partCheck (replicate n 0) 0)) (0 ∷ 12 ∷ 13 ∷ []) ≡ 1 ∷ 1 ∷ 0 ∷ []
+least = refl

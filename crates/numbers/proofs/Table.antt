@@ -1,11 +1,12 @@
 -- Document 01's numbers hold, by computation. Assumes nothing.
-use mathlib.Core.Path.{_≡_, refl, sym, _∙_}
+use mathlib.Core.Path.{_≡_, refl}
 use mathlib.Core.Bool.{true, false}
 use mathlib.Core.List.{[], _∷_, _++_}
 use lib.IntN.{pos, negℤ}
-use lib.Ieee.{nan, inf, fin, binary32, ofBits, ofInt, round}
+use lib.Ieee.{nan, inf, binary32, ofBits, toBits, ofInt, round}
 use lib.ListN.{replicate}
 use Rattle.frame.specs.declared.Refusal.the-variants.{CheckSumError}
+use Rattle.frame.specs.Refusals.{refusalNumber}
 use Rattle.frame.specs.Frame.{total, sum, summed, frame}
 use Rattle.frame.specs.Checks.{sumOf, lenCheck, headerCheck, checksumCheck, frameCheck}
 use Rattle.units.specs.Floats.{nearest}
@@ -43,17 +44,15 @@ p5-all = (refl, refl, refl)
 p6-both :
     (decodedSocCounts soc ≡ SocCountsGiven record { «total_voltage» = 523; current = negℤ (pos 121); «soc_percent» = 874 })
     × (decodedSocCounts (soc ++ (0x00 ∷ [])) ≡ SocCountsRefused CheckSumError)
+    × (refusalNumber CheckSumError ≡ 3)
 unfolding frameCheck lenCheck headerCheck checksumCheck sumOf sum total
-p6-both = (refl, refl)
+p6-both = (refl, refl, refl)
 
--- each against the value itself: two roundings are never computed against one another
-p8-20 : (nearest (pos 16_777_219) ≡ fin false 4_194_305 (pos 2)) × (nearest (pos 16_777_220) ≡ fin false 4_194_305 (pos 2))
-unfolding ofInt
-p8-20 = (refl, refl)
-
-p8-16 : (nearest (pos 16_777_217) ≡ fin false 1 (pos 24)) × (nearest (pos 16_777_216) ≡ fin false 1 (pos 24))
-unfolding ofInt
-p8-16 = (refl, refl)
+p8-bits :
+    (toBits binary32 (nearest (pos 16_777_219)) ≡ 0x4B80_0002) × (toBits binary32 (nearest (pos 16_777_220)) ≡ 0x4B80_0002)
+    × (toBits binary32 (nearest (pos 16_777_217)) ≡ 0x4B80_0000) × (toBits binary32 (nearest (pos 16_777_216)) ≡ 0x4B80_0000)
+unfolding ofInt toBits
+p8-bits = (refl, refl, refl, refl)
 
 p10-list : faults (frame 1 0x98 (0 ∷ 0 ∷ 0x03 ∷ 0 ∷ 0 ∷ 0 ∷ 0 ∷ 0 ∷ [])) ≡ 17 ∷ 16 ∷ []
 unfolding faults frame summed sum total
@@ -87,7 +86,7 @@ numbers =
       p5 = p5-all;
       p6 = p6-both;
       p7 = (refl, refl, refl);
-      p8 = (p8-20 .0 ∙ sym (p8-20 .1), p8-16 .0 ∙ sym (p8-16 .1));
+      p8 = p8-bits;
       p9 = (refl, refl);
       p10 = p10-list;
       p11 = p11-read;

@@ -4,9 +4,10 @@ use mathlib.Core.Path.{_≡_}
 use mathlib.Core.Bool.{Bool, true, false}
 use mathlib.Core.List.{List, [], _∷_, _++_}
 use lib.IntN.{ℤ, pos, negℤ}
-use lib.Ieee.{nan, inf, binary32, ofBits, round}
+use lib.Ieee.{nan, inf, binary32, ofBits, toBits, round}
 use lib.ListN.{replicate}
 use Rattle.frame.specs.declared.Refusal.the-variants.{CheckSumError}
+use Rattle.frame.specs.Refusals.{refusalNumber}
 use Rattle.frame.specs.Frame.{frame}
 use Rattle.units.specs.Floats.{nearest}
 use Rattle.units.specs.SetSoc.{setSocCount}
@@ -70,10 +71,14 @@ pub record Numbers : Type 0 where
   pub p6 :
       (decodedSocCounts soc ≡ SocCountsGiven record { «total_voltage» = 523; current = negℤ (pos 121); «soc_percent» = 874 })
       × (decodedSocCounts (soc ++ (0x00 ∷ [])) ≡ SocCountsRefused CheckSumError)
+      × (refusalNumber CheckSumError ≡ 3)
   -- "temperature byte 167 is 127, 168 is −128, 255 is −41"
   pub p7 : (temperatureOf 167 ≡ pos 127) × (temperatureOf 168 ≡ negℤ (pos 128)) × (temperatureOf 255 ≡ negℤ (pos 41))
   -- "capacity count 16,777,219 becomes 16,777,220 before division; 16,777,217 becomes 16,777,216"
-  pub p8 : (nearest (pos 16_777_219) ≡ nearest (pos 16_777_220)) × (nearest (pos 16_777_217) ≡ nearest (pos 16_777_216))
+  -- as f32 these are 4B800002, which is 2 ^ 24 + 2 * 2, and 4B800000, which is 2 ^ 24
+  pub p8 :
+      (toBits binary32 (nearest (pos 16_777_219)) ≡ 0x4B80_0002) × (toBits binary32 (nearest (pos 16_777_220)) ≡ 0x4B80_0002)
+      × (toBits binary32 (nearest (pos 16_777_217)) ≡ 0x4B80_0000) × (toBits binary32 (nearest (pos 16_777_216)) ≡ 0x4B80_0000)
   -- "balance with n = 0: one flag; n = 49: 48"
   pub p9 : (flagCount 0 ≡ 1) × (flagCount 49 ≡ 48)
   -- "byte 6 of a 98 reply being 03 lists position 17, then 16"

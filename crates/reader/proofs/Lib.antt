@@ -8,4 +8,5 @@ pub mod Answer
 pub mod Asking
 pub mod Promise
 pub mod Agreeing
+pub mod Examples
 pub mod Decided

@@ -7,6 +7,7 @@ use Rattle.text.specs.Text.{decimal, field, line}
 use Rattle.rules.specs.Reader.{Answer, joined, status}
 use Rattle.rules.proofs.Examples.{frame90, line90}
 use Rattle.report.proofs.Examples.{example}
+use Rattle.list.specs.Numbered.{framesFor, replySize}
 use Rattle.reply.specs.Output.{replySizeFor, reported, outputOf}
 
 -- "Input `90 00 00 A5 A5 01 90 08 02 0B 00 00 74 B7 03 6A E3` prints, whole"
@@ -23,3 +24,9 @@ pub refusals :
     (word "refused 7\n" ∷ word "refused 7\n" ∷ word "refused 10\n" ∷ word "refused 10\n" ∷ [])
 unfolding reported line field decimal
 refusals = refl
+
+-- 95 and 96 with counts 0, 8 and 255, and one frame whatever the count for 90 and 97
+pub sizes : replySizeFor 0x95 0 ∷ replySizeFor 0x95 8 ∷ replySizeFor 0x95 255 ∷ replySizeFor 0x96 0 ∷ replySizeFor 0x96 8 ∷ replySizeFor 0x96 255 ∷ replySizeFor 0x90 255 ∷ replySizeFor 0x97 255 ∷ []
+    ≡ 0 ∷ 39 ∷ 1105 ∷ 0 ∷ 26 ∷ 481 ∷ 13 ∷ 13 ∷ []
+unfolding replySizeFor
+sizes = refl

@@ -1,4 +1,5 @@
 pub mod Asked
 pub mod Told
 pub mod Layouts
+pub mod Examples
 pub mod Decided

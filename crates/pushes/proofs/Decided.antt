@@ -12,19 +12,18 @@ use denote.Ref.{now}
 use denote.Triple.Clauses.{AtExit}
 use denote.Triple.Entry.{Args}
 use Rattle.wire.proofs.Decides.{Decides, both}
-use Rattle.reader.specs.View.{view}
 use Rattle.reader.specs.Lent.{AnsweredLent}
 use Rattle.reader.specs.declared.Said.{Said}
-use Rattle.reader.proofs.Promise.{told, told-once, pushed-once}
+use Rattle.reader.proofs.Promise.{told, shown, told-once, pushed-once}
 use Rattle.reader.proofs.Agreeing.{LentDecides, answered-once}
 use Rattle.pushes.proofs.daly_push_by_value.Reads as daly-push-by-value
 use Rattle.pushes.proofs.daly_push_into.Reads as daly-push-into
 use Rattle.pushes.proofs.daly_push_lent as push-lent
 
-daly-push-by-value-decides : Decides daly-push-by-value.Post (λ κs r s. both (told r) (view (r .reader .counts) (r .reader .frames)))
+daly-push-by-value-decides : Decides daly-push-by-value.Post (λ κs r s. both (told r) (shown (r .said .status) (r .reader .counts) (r .reader .frames)))
 daly-push-by-value-decides κs a x y s t = pushed-once
 
-daly-push-into-decides : Decides daly-push-into.Post (λ κs r s. both r (view (r .counts) (now (s .0))))
+daly-push-into-decides : Decides daly-push-into.Post (λ κs r s. both r (shown (r .said .status) (r .counts) (now (s .0))))
 daly-push-into-decides κs a x y s t = told-once
 
 -- of `daly_push_lent` the `ensures` is `AnsweredLent`, of the reader at entry, the chunk, the answer and the reader at exit

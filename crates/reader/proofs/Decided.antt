@@ -3,8 +3,7 @@
 use denote.Ref.{now}
 use Rattle.wire.proofs.Decides.{Decides, same, both}
 use Rattle.list.proofs.Decoding.{pinned}
-use Rattle.reader.specs.View.{view}
-use Rattle.reader.proofs.Promise.{told, told-once, pushed-once}
+use Rattle.reader.proofs.Promise.{told, shown, told-once, pushed-once}
 use Rattle.reader.proofs.push_into.Reads as push-into
 use Rattle.reader.proofs.FrameReader.new.Reads as FrameReader-new
 use Rattle.reader.proofs.FrameReader.push.Reads as FrameReader-push
@@ -12,13 +11,13 @@ use Rattle.reader.proofs.FrameReader.missing.Reads as FrameReader-missi
 use Rattle.reader.proofs.FrameReader.is_complete.Reads as FrameReader-is-complete
 use Rattle.reader.proofs.FrameReader.copy_out.Reads as FrameReader-copy-out
 
-push-into-decides : Decides push-into.Post (λ κs r s. both r (view (r .counts) (now (s .0))))
+push-into-decides : Decides push-into.Post (λ κs r s. both r (shown (r .said .status) (r .counts) (now (s .0))))
 push-into-decides κs a x y s t = told-once
 
 FrameReader-new-decides : Decides FrameReader-new.Post (λ κs r s. r)
 FrameReader-new-decides κs a x y s t = same
 
-FrameReader-push-decides : Decides FrameReader-push.Post (λ κs r s. both (told r) (view (r .reader .counts) (r .reader .frames)))
+FrameReader-push-decides : Decides FrameReader-push.Post (λ κs r s. both (told r) (shown (r .said .status) (r .reader .counts) (r .reader .frames)))
 FrameReader-push-decides κs a x y s t = pushed-once
 
 FrameReader-missing-decides : Decides FrameReader-missing.Post (λ κs r s. r)

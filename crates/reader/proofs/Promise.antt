@@ -1,13 +1,14 @@
 -- What the contract of a push gives its callers: pushes in a row, and demand 3 of the code. Assumes nothing.
 use mathlib.Core.Path.{_≡_, refl, sym, ap, _∙_}
-use mathlib.Core.Bool.{Bool, true, false, true≢false}
+use mathlib.Core.Bool.{Bool, true, false, cond, true≢false}
 use mathlib.Core.List.{List, [], _∷_, _++_}
 use Prim.Native.Nat.{ℕ, _+_, _*_, _≤_}
 use native.Mathlib.Omega.{arith}
+use lib.Dec.{eqb}
 use lib.ListN.{length, take, drop}
 use lib.Seq.{take-add}
 use Rattle.wire.proofs.Decides.{both}
-use Rattle.rules.specs.Rules.{Config}
+use Rattle.rules.specs.Rules.{Config, if_then_else_}
 use Rattle.rules.specs.Reader.{Reader, Answer, fresh, did, booked, push, status, took, bad, answer}
 use Rattle.rules.specs.Demand.{answers}
 use Rattle.rules.proofs.Recut.{recut, parts}
@@ -69,18 +70,53 @@ module _ (c₁ : Counts) (f₁ : List ℕ) (c₂ : Counts) (f₂ : List ℕ) (se
 
 -- ---- the answer is one, but for places of the array that no one sees
 
+-- what is seen of a reader after a push that said `status`: its places in use, and with 8 ("as given") the whole array
+abbrev pub shown : ℕ → Counts → List ℕ → Reader × List ℕ
+shown status c f = both (view c f) (cond (eqb status 8) f [])
+
+moved-on : (r : Reader) → eqb (status r) 8 ≡ false
+unfolding status
+moved-on r = go (r .mark)
+  where
+    go : (m : Bool) → eqb (if m then 2 else 0) 8 ≡ false
+    go true = refl
+    go false = refl
+
 module _ {f : List ℕ} {c : Counts} {s : List ℕ} where
+  -- with 8 the array is the one that was given, so two answers have the same
+  whole-once : {x y : Told} {g h : List ℕ} → Answered f c s (x .said .status) (x .said .took) (x .counts) g
+      → Answered f c s (y .said .status) (y .said .took) (y .counts) h
+      → cond (eqb (x .said .status) 8) g [] ≡ cond (eqb (y .said .status) 8) h []
+  whole-once {x = x} {y = y} {g = g} {h = h} a b = go (bad (view c f)) refl
+    where
+      given : (z : Told) (l : List ℕ) → Answered f c s (z .said .status) (z .said .took) (z .counts) l
+          → bad (view c f) ≡ true → cond (eqb (z .said .status) 8) l [] ≡ f
+      given z l k e = let q = answered-refused f c s (z .said .status) (z .said .took) (z .counts) l k e in λ i. cond (eqb (q .0 i) 8) (q .3 i) []
+
+      unseen : (z : Told) (l : List ℕ) → Answered f c s (z .said .status) (z .said .took) (z .counts) l
+          → bad (view c f) ≡ false → cond (eqb (z .said .status) 8) l [] ≡ []
+      unseen z l k e =
+          let q = answered-push f c s (z .said .status) (z .said .took) (z .counts) l k e in
+          ap (λ (n : ℕ). cond (eqb n 8) l []) (q .1) ∙ ap (λ (d : Bool). cond d l []) (moved-on (push (view c f) s))
+
+      go : (d : Bool) → bad (view c f) ≡ d → cond (eqb (x .said .status) 8) g [] ≡ cond (eqb (y .said .status) 8) h []
+      go true e = given x g a e ∙ sym (given y h b e)
+      go false e = unseen x g a e ∙ sym (unseen y h b e)
+
   pub told-once : {x y : Told} {g h : List ℕ} → Answered f c s (x .said .status) (x .said .took) (x .counts) g
-      → Answered f c s (y .said .status) (y .said .took) (y .counts) h → both x (view (x .counts) g) ≡ both y (view (y .counts) h)
+      → Answered f c s (y .said .status) (y .said .took) (y .counts) h
+      → both x (shown (x .said .status) (x .counts) g) ≡ both y (shown (y .said .status) (y .counts) h)
   told-once {x = x} {y = y} {g = g} {h = h} a b =
       let e = a .by-rule ∙ sym (b .by-rule) in
       let seen : view (x .counts) g ≡ view (y .counts) h = ap (λ (z : Answer). z .reader) e in
       let k : x .counts ≡ y .counts = same-counts (x .counts) g (y .counts) h seen in
-      λ i. both (record { said = record { status = e i .status; took = e i .took }; counts = k i }) (seen i)
+      let w = whole-once {x = x} {y = y} {g = g} {h = h} a b in
+      λ i. both (record { said = record { status = e i .status; took = e i .took }; counts = k i }) (both (seen i) (w i))
 
   pub pushed-once : {x y : Pushed} → Answered f c s (x .said .status) (x .said .took) (x .reader .counts) (x .reader .frames)
       → Answered f c s (y .said .status) (y .said .took) (y .reader .counts) (y .reader .frames)
-      → both (told x) (view (x .reader .counts) (x .reader .frames)) ≡ both (told y) (view (y .reader .counts) (y .reader .frames))
+      → both (told x) (shown (x .said .status) (x .reader .counts) (x .reader .frames))
+      ≡ both (told y) (shown (y .said .status) (y .reader .counts) (y .reader .frames))
   pushed-once {x = x} {y = y} a b = told-once {x = told x} {y = told y} a b
 
 -- ---- two pushes are one

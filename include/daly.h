@@ -13,7 +13,7 @@
  * - A `bool` is 0 or 1, also in a struct that you hand in.
  * - `number` is 0 for done, or a refusal. A refused record is all zero, and a refusal writes nothing into
  *   memory that you lent.
- * - Calls may run on several threads at once. While one pushes into a reader, no other has that reader.
+ * - Calls may run on several threads at once. While one writes to a reader, no other has that reader.
  */
 #ifndef DALY_H
 #define DALY_H

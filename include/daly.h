@@ -1,9 +1,10 @@
 /*
  * Reads Daly battery boards: requests, replies, and the frames of a noisy serial line.
  *
- * Link libdaly.a, which `rt staticlib daly` writes to target/staticlib. It runs on x86-64 Linux, needs
- * nothing but the C library, allocates nothing, keeps nothing between calls and never stops the program:
- * every call answers, whatever it is given. What each function answers is proved (docs/PROMISES.md).
+ * Link libdaly.a, which `rt staticlib daly` writes to target/staticlib; `tools/install PREFIX` puts it where
+ * pkg-config finds it. It runs on x86-64 Linux, needs nothing but the C library, allocates nothing, keeps
+ * nothing between calls and never stops the program: every call answers, whatever it is given. What each
+ * function answers is proved (docs/PROMISES.md).
  *
  * For every function:
  * - A pointer comes with a length, or to an array of the length in its declaration. It is never NULL, not
@@ -12,6 +13,7 @@
  * - A `bool` is 0 or 1, also in a struct that you hand in.
  * - `number` is 0 for done, or a refusal. A refused record is all zero, and a refusal writes nothing into
  *   memory that you lent.
+ * - Calls may run on several threads at once. While one writes to a reader, no other has that reader.
  */
 #ifndef DALY_H
 #define DALY_H
@@ -23,6 +25,13 @@
 #ifdef __cplusplus
 extern "C" {
 #endif
+
+/* ---- The version, as in CHANGELOG.md */
+
+#define DALY_VERSION "0.1.0"
+#define DALY_VERSION_MAJOR 0
+#define DALY_VERSION_MINOR 1
+#define DALY_VERSION_PATCH 0
 
 /* ---- Refusals */
 
@@ -41,15 +50,42 @@ enum {
     DALY_COUNT_TOO_LARGE = 11   /* the pack check has over 255 cells */
 };
 
+/* ---- Commands, by the Rust's names */
+
+enum {
+    DALY_SOC = 0x90,
+    DALY_CELL_VOLTAGE_RANGE = 0x91,
+    DALY_TEMPERATURE_RANGE = 0x92,
+    DALY_MOSFET_STATUS = 0x93,
+    DALY_STATUS = 0x94,
+    DALY_CELL_VOLTAGES = 0x95,
+    DALY_CELL_TEMPERATURES = 0x96,
+    DALY_CELL_BALANCE_STATE = 0x97,
+    DALY_ERROR_CODE = 0x98,
+    DALY_SET_DISCHARGE_MOSFET = 0xD9,
+    DALY_SET_CHARGE_MOSFET = 0xDA,
+    DALY_SET_SOC = 0x21,
+    DALY_BMS_RESET = 0x00
+};
+
+/* ---- Sizes of arrays */
+
 #define DALY_FRAME 13    /* bytes of a frame */
 #define DALY_FRAMES 1105 /* bytes that a reader has room for: 85 frames */
+#define DALY_CELLS 255   /* the most cells of 95, and of the pack check */
+#define DALY_SENSORS 255 /* the most sensors of 96 */
+#define DALY_FLAGS 48    /* the most flags of 97 */
+#define DALY_FAULTS 48   /* the faults of 98 */
 
 /* ---- Frames */
 
 /* The sum of all bytes but the last, modulo 256; 0 for a buffer of 0 or 1 bytes. */
 uint8_t daly_calc_crc(const uint8_t *buffer, size_t len);
 
-/* Whether the buffer is a right frame of this command: 0, or 1, 2 or 3, in this order. */
+/*
+ * Whether the buffer is a right frame of this command: 0, or 1, 2 or 3, in this order. It judges the replies
+ * that have nothing to decode: those to D9, DA, 21 and 00.
+ */
 uint8_t daly_frame_check(const uint8_t *buffer, size_t len, uint8_t command);
 
 /* Whether the buffer has a full frame k, counted from 0: 0 or 1. It begins at buffer + 13 * k. */
@@ -62,6 +98,9 @@ uint8_t daly_frame_refusal(const uint8_t *buffer, size_t len, size_t k);
  * 90 to 98 ask for a reply; D9 and DA switch the discharging and the charging MOSFET as `enable` says; 21
  * sets the charge to `soc_percent`, rounded to tenths, halves away from zero, within 0 to 100, a NaN as 0;
  * 00 resets the board. What a command does not use is ignored.
+ *
+ * Before you send, drop what has come in on the line (`tcflush(line, TCIFLUSH)`). Else a reply that came late
+ * answers the next question of its command, the reply to that the one after, and so on.
  */
 uint8_t daly_request(uint8_t command, bool enable, float soc_percent, uint8_t out[DALY_FRAME]);
 
@@ -176,14 +215,15 @@ struct daly_list daly_cell_temperatures(const uint8_t *reply, size_t len, uint8_
 /* 97: a flag for each cell; 0 cells give one flag, over 48 give 48 */
 struct daly_list daly_cell_balance_state(const uint8_t *reply, size_t len, uint8_t n_cells, bool *out, size_t room);
 
-/* 98: the faults, as positions in docs/FAULTS.md; needs room for all 48 */
+/* 98: the faults, as positions in docs/FAULTS.md; needs room for all 48. daly_faults.h has their names */
 struct daly_list daly_error_codes(const uint8_t *reply, size_t len, uint8_t *out, size_t room);
 
 /* ---- The pack check */
 
 /*
  * Cells in millivolts, at most 255, against the total in tenths of a volt: 0 or 11. `difference` is the sum of
- * the cells less 100 times the total, in millivolts; `agrees` says whether it is from -50 to 50.
+ * the cells less 100 times the total, in millivolts; `agrees` says whether it is from -50 to 50. A list of
+ * no cells and a total of 0 agree: look at the count first.
  */
 struct daly_pack {
     uint8_t number;

@@ -1,9 +1,11 @@
-/* What include/daly.h declares, held to libdaly.a: an answer of every function. (Sizes: tools/test_layouts.)
- * Expected values are worked out by hand from document 01. Closes with `N passed, M failed`. */
+/* What include/daly.h declares, held to libdaly.a: an answer of every function. (Sizes: tools/test_layouts;
+ * which name has which number: tools/test_names.) Expected values are worked out by hand from document 01. Closes with
+ * `N passed, M failed`. */
 #include <stdio.h>
 #include <string.h>
 
 #include "daly.h"
+#include "daly_faults.h"
 
 static int passed, failed;
 
@@ -41,6 +43,68 @@ static void requests_and_frames(void)
              daly_frame_check(soc, 13, 0x91) == DALY_UNEXPECTED_FRAME,
          "daly_frame_check");
     test(daly_frame_refusal(soc, 13, 0) == DALY_DONE && daly_frame_refusal(soc, 13, 1) == DALY_REPLY_SIZE, "daly_frame_refusal");
+}
+
+static const uint8_t commands[] = {
+    DALY_SOC, DALY_CELL_VOLTAGE_RANGE, DALY_TEMPERATURE_RANGE, DALY_MOSFET_STATUS, DALY_STATUS, DALY_CELL_VOLTAGES,
+    DALY_CELL_TEMPERATURES, DALY_CELL_BALANCE_STATE, DALY_ERROR_CODE, DALY_SET_DISCHARGE_MOSFET, DALY_SET_CHARGE_MOSFET,
+    DALY_SET_SOC, DALY_BMS_RESET,
+};
+
+/* What daly_request makes of a byte that is a command's name, or of one that is none. */
+static bool request_is(uint8_t byte, bool named)
+{
+    uint8_t wanted[DALY_FRAME] = {0xA5, 0x40, byte, 0x08}, out[DALY_FRAME] = {0};
+    const uint8_t none[DALY_FRAME] = {0};
+    wanted[12] = daly_calc_crc(wanted, DALY_FRAME);
+    if (named)
+        return daly_request(byte, false, 0, out) == DALY_DONE && memcmp(out, wanted, DALY_FRAME) == 0;
+    return daly_request(byte, false, 0, out) == DALY_UNKNOWN_COMMAND && memcmp(out, none, DALY_FRAME) == 0;
+}
+
+static void names(void)
+{
+    const uint8_t only_checked[] = {DALY_SET_DISCHARGE_MOSFET, DALY_SET_CHARGE_MOSFET, DALY_SET_SOC, DALY_BMS_RESET};
+    char version[32];
+    bool good = sizeof commands == 13;
+    for (int byte = 0; byte < 256; byte++)
+        good = good && request_is((uint8_t)byte, memchr(commands, byte, sizeof commands) != NULL);
+    test(good, "daly_request: the thirteen names, and no other byte");
+
+    good = true;
+    for (size_t i = 0; i < sizeof only_checked; i++) {
+        uint8_t reply[DALY_FRAME];
+        frame(reply, only_checked[i], (const uint8_t[8]){0});
+        good = good && daly_frame_check(reply, DALY_FRAME, only_checked[i]) == DALY_DONE;
+        reply[12]++;
+        good = good && daly_frame_check(reply, DALY_FRAME, only_checked[i]) == DALY_CHECK_SUM;
+    }
+    test(good, "daly_frame_check: the replies that have nothing to decode");
+
+    test(strcmp(daly_fault_name(17), "ChargeOvercurrentLevel2") == 0 && strcmp(daly_fault_name(DALY_FAULTS), "unknown") == 0,
+         "daly_fault_name");
+    snprintf(version, sizeof version, "%d.%d.%d", DALY_VERSION_MAJOR, DALY_VERSION_MINOR, DALY_VERSION_PATCH);
+    test(strcmp(version, DALY_VERSION) == 0, "the version is one");
+}
+
+/* The arrays' sizes are just what the library needs. */
+static void sizes(void)
+{
+    uint8_t reply[DALY_FRAME], faults[DALY_FAULTS];
+    bool flags[DALY_FLAGS];
+    const uint16_t cells[DALY_CELLS + 1] = {0};
+    test(daly_cell_voltages_reply_size(DALY_CELLS) == DALY_FRAMES, "DALY_FRAMES");
+    test(daly_cell_temperatures_reply_size(DALY_SENSORS) == 481, "DALY_SENSORS");
+    test(daly_pack_check(cells, DALY_CELLS, 0).number == DALY_DONE && daly_pack_check(cells, DALY_CELLS + 1, 0).number == DALY_COUNT_TOO_LARGE,
+         "DALY_CELLS");
+    frame(reply, DALY_CELL_BALANCE_STATE, (const uint8_t[8]){0});
+    test(daly_cell_balance_state(reply, DALY_FRAME, DALY_CELLS, flags, DALY_FLAGS).count == DALY_FLAGS &&
+             daly_cell_balance_state(reply, DALY_FRAME, DALY_CELLS, flags, DALY_FLAGS - 1).number == DALY_NO_ROOM,
+         "DALY_FLAGS");
+    frame(reply, DALY_ERROR_CODE, (const uint8_t[8]){255, 255, 255, 255, 255, 255, 255, 255});
+    test(daly_error_codes(reply, DALY_FRAME, faults, DALY_FAULTS).count == DALY_FAULTS &&
+             daly_error_codes(reply, DALY_FRAME, faults, DALY_FAULTS - 1).number == DALY_NO_ROOM,
+         "DALY_FAULTS");
 }
 
 static void records(void)
@@ -126,6 +190,8 @@ static void pack(void)
     test(p.number == 0 && !p.agrees && p.difference == -51, "daly_pack_check: P14, 13,049");
     p = daly_pack_check(many, 256, 0);
     test(p.number == DALY_COUNT_TOO_LARGE && !p.agrees && p.difference == 0, "daly_pack_check: 256 cells");
+    p = daly_pack_check(many, 0, 0);
+    test(p.number == 0 && p.agrees && p.difference == 0, "daly_pack_check: no cells and a total of 0");
 }
 
 /* Document 01's example, cut behind the noise; then a reader whose fields contradict one another. */
@@ -172,6 +238,8 @@ static void reader(void)
 int main(void)
 {
     requests_and_frames();
+    names();
+    sizes();
     records();
     lists();
     pack();

@@ -2,16 +2,18 @@
 -- cite. Assumes nothing.
 use mathlib.Core.Path.{_≡_, refl}
 use Prim.Native.Nat.{ℕ}
-use mathlib.Core.Bool.{true, false}
+use mathlib.Core.Bool.{Bool, true, false}
 use mathlib.Core.List.{List, [], _∷_, _++_, map}
-use lib.ListN.{take, length}
+use lib.ListN.{take, length, replicate}
 use Rattle.wire.specs.Lists.{firsts}
 use Rattle.frame.specs.Refusals.{checkNumber}
 use Rattle.frame.specs.Frame.{total, sum, summed, frame}
 use Rattle.frame.specs.Checks.{sumOf, lenCheck, headerCheck, checksumCheck, frameCheck}
+use Rattle.list.specs.declared.Listed.{Listed}
+use Rattle.list.specs.declared.Listed.the-variants.{Stored}
 use Rattle.list.specs.Listed.{gate}
-use Rattle.flags.specs.Balance.{flagCount, flagAt, balanceCheck}
-use Rattle.flags.specs.Faults.{faults, faultsCheck}
+use Rattle.flags.specs.Balance.{flagCount, flagAt, balanceCheck, DecodesBalance}
+use Rattle.flags.specs.Faults.{faults, faultsCheck, DecodesFaults}
 
 -- a sound reply with byte 6 being 3
 abbrev three : ℕ → List ℕ
@@ -85,3 +87,21 @@ flags-at : map (flagAt (frame 1 0x97 (0x01 ∷ 0x01 ∷ 0x80 ∷ 0 ∷ 0 ∷ 0x8
     ≡ true ∷ false ∷ true ∷ false ∷ true ∷ false ∷ false ∷ true ∷ []
 unfolding frame summed sum total
 flags-at = refl
+
+-- "48 flags from byte 4, lowest bit first": bits 0 of byte 5 and 7 of byte 9 are flags 8 and 47
+abbrev outer : List ℕ
+outer = frame 1 0x97 (0 ∷ 0x01 ∷ 0 ∷ 0 ∷ 0 ∷ 0x80 ∷ 0 ∷ 0 ∷ [])
+
+outer-flags : map (flagAt outer) (0 ∷ 7 ∷ 8 ∷ 9 ∷ 46 ∷ 47 ∷ []) ≡ false ∷ false ∷ true ∷ false ∷ false ∷ true ∷ []
+unfolding total sum summed frame
+outer-flags = refl
+
+-- what the statements say of the answer and of the lent places
+nine-flags : (r : Listed) (exit : List Bool) → DecodesBalance outer 9 (replicate 10 true) r exit
+    → (r ≡ Stored 9) × (exit ≡ replicate 8 false ++ (true ∷ true ∷ []))
+unfolding total sum summed frame sumOf lenCheck headerCheck checksumCheck frameCheck gate
+nine-flags r exit d = (d .answer, d .left)
+
+two-faults : (r : Listed) (exit : List ℕ) → DecodesFaults (three 0x98) (replicate 48 99) r exit → (r ≡ Stored 2) × (exit ≡ 17 ∷ 16 ∷ replicate 46 99)
+unfolding total sum summed frame sumOf lenCheck headerCheck checksumCheck frameCheck gate faults
+two-faults r exit d = (d .answer, d .left)

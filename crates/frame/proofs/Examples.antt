@@ -6,7 +6,7 @@ use lib.ListN.{replicate}
 use Rattle.frame.specs.declared.Refusal.the-variants.{ReplySizeError, UnexpectedFrame, CheckSumError, FrameNoError, UnknownMode, ReplyTooLong, RequestTooShort, BadState, NoRoom, UnknownCommand, CountTooLarge}
 use Rattle.frame.specs.Frame.{sum, total}
 use Rattle.frame.specs.Refusals.{refusalNumber, checkNumber}
-use Rattle.frame.specs.Checks.{sumOf, framePart, partCheck}
+use Rattle.frame.specs.Checks.{sumOf, headerCheck, checksumCheck, framePart, partCheck}
 
 -- document 01's table of refusals
 numbers :
@@ -39,3 +39,15 @@ part-numbers = refl
 -- 12 bytes have no frame, 13 have one
 least : map (λ (n : ℕ). checkNumber (partCheck (replicate n 0) 0)) (0 ∷ 12 ∷ 13 ∷ []) ≡ 1 ∷ 1 ∷ 0 ∷ []
 least = refl
+
+-- a header asked of fewer than 3 bytes is refusal 1, whatever they are; then 2 "byte 0 not A5 or byte 2 not the command"
+headers : map (λ (s : List ℕ). checkNumber (headerCheck 0x90 s))
+    ([] ∷ (0 ∷ 0 ∷ []) ∷ (0xA5 ∷ 0x01 ∷ []) ∷ (0xA5 ∷ 0x01 ∷ 0x90 ∷ []) ∷ (0xA4 ∷ 0x01 ∷ 0x90 ∷ []) ∷ (0xA5 ∷ 0x01 ∷ 0x91 ∷ []) ∷ [])
+    ≡ 1 ∷ 1 ∷ 1 ∷ 0 ∷ 2 ∷ 2 ∷ []
+unfolding headerCheck
+headers = refl
+
+-- 3 "sum differs"; a buffer without a last byte is refusal 1
+sums-checked : map (λ (s : List ℕ). checkNumber (checksumCheck s)) ([] ∷ (0 ∷ []) ∷ (1 ∷ []) ∷ (7 ∷ 7 ∷ []) ∷ (7 ∷ 8 ∷ []) ∷ []) ≡ 1 ∷ 0 ∷ 3 ∷ 0 ∷ 3 ∷ []
+unfolding checksumCheck sumOf sum total
+sums-checked = refl

@@ -8,5 +8,6 @@ pub mod Answer
 pub mod Asking
 pub mod Promise
 pub mod Agreeing
+pub mod Auditor
 pub mod Examples
 pub mod Decided

@@ -3,7 +3,7 @@ use mathlib.Core.Path.{_≡_, refl}
 use Prim.Native.Nat.{ℕ}
 use mathlib.Core.List.{List, [], _∷_}
 use mathlib.Core.Bool.{true, false}
-use lib.Ieee.{binary32, round}
+use lib.Ieee.{binary32, ofBits, round}
 use Rattle.frame.specs.Frame.{frame}
 use Rattle.units.specs.SetSoc.{setSocCount}
 use Rattle.request.specs.Requests.{readRequest, switchRequest, setSocRequest}
@@ -29,3 +29,8 @@ switches : switchRequest 0xD9 false ∷ switchRequest 0xD9 true ∷ switchReques
     ∷ []
 unfolding frame
 switches = refl
+
+-- "high byte first": 51.2 percent, whose bits are 424CCCCD, is 512
+high-byte : setSocRequest (ofBits binary32 0x424C_CCCD) ≡ 0xA5 ∷ 0x40 ∷ 0x21 ∷ 0x08 ∷ 0 ∷ 0 ∷ 0 ∷ 0 ∷ 0 ∷ 0 ∷ 0x02 ∷ 0x00 ∷ 0x10 ∷ []
+unfolding frame setSocCount ofBits
+high-byte = refl

@@ -5,9 +5,9 @@ use mathlib.Core.List.{List, [], _∷_, _++_}
 use Prim.Native.Nat.{ℕ}
 use lib.ListN.{replicate}
 use Rattle.frame.specs.Frame.{total, sum}
-use Rattle.rules.specs.Rules.{Config, sumRight, restarts, judge, look, stay, after, drops}
-use Rattle.rules.specs.Ledger.{turns, run, total as counted}
-use Rattle.rules.specs.Reader.{Answer, fresh, complete, heldOf, untaken, did, booked, push, status, bad, answer}
+use Rattle.rules.specs.Rules.{Config, noise, wrongSum, wrongCommand, wrongNumber, discarded as thrown, collected as taken-in, sumRight, restarts, judge, look, stay, after, drops}
+use Rattle.rules.specs.Ledger.{turns, run, total as counted, spent}
+use Rattle.rules.specs.Reader.{Answer, fresh, complete, heldOf, untaken, did, booked, push, status, bad, answer, joined}
 
 -- an answer, field by field
 abbrev pub answered : Config → ℕ → ℕ → List (List ℕ) → List ℕ → ℕ → ℕ → ℕ → Bool → Answer
@@ -110,3 +110,46 @@ p12 = refl
 pub p13 : answer (fresh c90) (replicate 513 0 ++ frame90) ≡ answered c90 2 526 (frame90 ∷ []) [] 526 513 0 true
 unfolding answer bad status push did run turns look judge restarts sumRight sum total after drops stay booked counted complete heldOf untaken
 p13 = refl
+
+-- bytes that are held come before the next chunk: document 01's frame, cut behind its fifth byte
+pub held-first : answer (answered c90 0 0 [] (0xA5 ∷ 0x01 ∷ 0x90 ∷ 0x08 ∷ 0x02 ∷ []) 5 0 0 false .reader) (0x0B ∷ 0x00 ∷ 0x00 ∷ 0x74 ∷ 0xB7 ∷ 0x03 ∷ 0x6A ∷ 0xE3 ∷ [])
+    ≡ answered c90 0 8 (frame90 ∷ []) [] 13 0 0 false
+unfolding answer bad status push did run turns look judge restarts sumRight sum total after drops stay booked counted complete heldOf untaken
+held-first = refl
+
+-- the mark stays though the count, wrapped, is small again
+pub mark-stays : answer (answered c90 0 0 [] [] 600 3 0 true .reader) (0 ∷ []) ≡ answered c90 2 1 [] [] 601 4 0 true
+unfolding answer bad status push did run turns look judge restarts sumRight sum total after drops stay booked counted complete heldOf untaken
+mark-stays = refl
+
+-- the ledger of a stream with a byte of noise, a wrong sum, a wrong command, and frames 1, 3, 1: each line's fate, its bytes, and the frames it dropped
+abbrev other : List ℕ
+other = 0xA5 ∷ 0x01 ∷ 0x91 ∷ 0x08 ∷ 0 ∷ 0 ∷ 0 ∷ 0 ∷ 0 ∷ 0 ∷ 0 ∷ 0 ∷ 0x3F ∷ []
+
+abbrev mixed : List ℕ
+mixed = 7 ∷ 0xA5 ∷ other ++ f1 ++ f3 ++ f1
+
+pub ledger : run c95 [] mixed
+    ≡ record {
+      ledger =
+          record { fate = thrown noise; bytes = 7 ∷ []; cleared = 0 }
+          ∷ record { fate = thrown wrongSum; bytes = 0xA5 ∷ []; cleared = 0 }
+          ∷ record { fate = thrown wrongCommand; bytes = other; cleared = 0 }
+          ∷ record { fate = taken-in; bytes = f1; cleared = 0 }
+          ∷ record { fate = thrown wrongNumber; bytes = f3; cleared = 0 }
+          ∷ record { fate = taken-in; bytes = f1; cleared = 1 }
+          ∷ [];
+      collected = f1 ∷ [];
+      rest = [];
+    }
+unfolding run turns look judge restarts sumRight sum total after drops stay
+ledger = refl
+
+-- and its bytes are the stream
+pub ledger-bytes : spent (run c95 [] mixed .ledger) ≡ mixed
+unfolding spent run turns look judge restarts sumRight sum total after drops stay
+ledger-bytes = refl
+
+pub chunks-joined : joined ((1 ∷ []) ∷ [] ∷ (2 ∷ 3 ∷ []) ∷ []) ≡ 1 ∷ 2 ∷ 3 ∷ []
+unfolding joined
+chunks-joined = refl

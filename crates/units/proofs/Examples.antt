@@ -6,7 +6,7 @@ use mathlib.Core.Bool.{true, false}
 use lib.IntN.{ℤ, pos, negℤ}
 use lib.Ieee.{Float, nan, inf, fin, binary32, ofInt, ofBits, toBits, round, div}
 use Rattle.units.specs.Floats.{nearest, tenths, thousandths, currentCount}
-use Rattle.units.specs.SetSoc.{setSocCount}
+use Rattle.units.specs.SetSoc.{halfAway, setSocCount}
 
 -- P2 0.25 and 50.5; P3 and P4 bits 3D4CCCCC and 3D4CCCCD; P5 NaN, infinity, −0.04, and besides them −infinity
 percentages : List Float
@@ -52,3 +52,8 @@ divided-by-1000 : map (λ (n : ℕ). toBits binary32 (thousandths (pos n))) (330
     ≡ 0x4053_4396 ∷ 0x3A83_126F ∷ 0x4683_1271 ∷ 0x4683_126F ∷ []
 unfolding ofInt div toBits
 divided-by-1000 = refl
+
+-- "rounds halves away from zero": 5 / 2, −5 / 2, 7 / 3 and −7 / 3
+halves : halfAway false 5 2 ∷ halfAway true 5 2 ∷ halfAway false 7 3 ∷ halfAway true 7 3 ∷ [] ≡ pos 3 ∷ negℤ (pos 3) ∷ pos 2 ∷ negℤ (pos 2) ∷ []
+unfolding halfAway
+halves = refl

@@ -25,7 +25,7 @@ pub const PARTS: &[Part] = &[
         2,
         no_bytes,
     ),
-    Part::new("frame_part", "the bytes of frame k, or none", 10_000, parts),
+    Part::new("frame_part", "the bytes of frame k, or none", 10_000, frame_parts),
 ];
 
 /// Document 01's number of what a check found, by the names alone.
@@ -129,31 +129,40 @@ fn no_bytes(trial: &mut Trial) {
     }
 }
 
-/// Some bytes of a buffer.
+/// A part of a buffer: where it begins, and its bytes.
 #[derive(Debug, PartialEq)]
-struct Lent(Vec<u8>);
+struct Lent {
+    at: usize,
+    bytes: Vec<u8>,
+}
 
 impl Answer for Lent {
     fn flip(&mut self, bit: usize) {
-        if self.0.is_empty() || bit % 2 == 0 {
-            self.0.push(bit as u8);
-        } else {
-            self.0.flip(bit / 2);
+        match bit % 3 {
+            0 => self.at.flip(bit / 3),
+            1 if !self.bytes.is_empty() => self.bytes.flip(bit / 3),
+            _ => self.bytes.push(bit as u8),
         }
     }
 }
 
-/// The Rust has no such function: the rule is the frames of a buffer one after another.
-fn parts(trial: &mut Trial) {
+fn lent(buffer: &[u8], part: &[u8]) -> Lent {
+    Lent {
+        at: (part.as_ptr() as usize).wrapping_sub(buffer.as_ptr() as usize),
+        bytes: part.to_vec(),
+    }
+}
+
+/// The Rust has no such function: the rule is the frames of a buffer one after another, and no copy.
+fn frame_parts(trial: &mut Trial) {
     let bytes = trial.random.bytes(LONGEST + 2 * FRAME);
     for length in (0..=60).chain(LONGEST..=bytes.len()) {
         let buffer = &bytes[..length];
         for k in asked(length) {
-            let ours = trial
-                .port
-                .answered(Lent(frame::frame_part(buffer, k).to_vec()));
-            let rule = buffer.chunks_exact(FRAME).nth(k).unwrap_or(&[]);
-            trial.check(Lent(rule.to_vec()), ours, || {
+            let ours = lent(buffer, frame::frame_part(buffer, k));
+            let ours = trial.port.answered(ours);
+            let rule = buffer.chunks_exact(FRAME).nth(k).unwrap_or(&buffer[..0]);
+            trial.check(lent(buffer, rule), ours, || {
                 format!("length {length} k {k}")
             });
         }

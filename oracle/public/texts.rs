@@ -12,6 +12,7 @@ pub const PARTS: &[Part] = &[
         8 * 10_000,
         texts,
     ),
+    Part::new("put_hex2", "every byte", 256 * 7, every_byte),
     Part::new(
         "report",
         "every command that cannot be asked",
@@ -75,13 +76,13 @@ fn drawn_at(trial: &mut Trial, length: usize) -> usize {
 }
 
 fn texts(trial: &mut Trial) {
-    for round in 0..trial.rounds(10_000) {
+    for _ in 0..trial.rounds(10_000) {
         let length = trial.random.below(60);
         let at = drawn_at(trial, length);
         let fewer = trial.random.below(64);
         let n = trial.random.next() >> fewer;
         let z = (trial.random.word() as i32) >> (fewer / 2);
-        let byte = (round as u8) ^ trial.random.byte();
+        let byte = trial.random.byte();
         let letter = char::from(b'a' + byte % 26);
         let word = &"total_voltage"[..trial.random.below(14)];
         let name = word.as_bytes();
@@ -104,6 +105,17 @@ fn texts(trial: &mut Trial) {
         put(format!("{word} {z}\n"), &|out| {
             text::put_signed_line(out, at, name, z)
         });
+    }
+}
+
+/// In a buffer of three places: at each, at its end, past it, and at the largest places.
+fn every_byte(trial: &mut Trial) {
+    for byte in 0..=255 {
+        for at in [0, 1, 2, 3, 4, usize::MAX - 1, usize::MAX] {
+            compare(trial, at, 3, &format!("{byte:02X}"), |out| {
+                text::put_hex2(out, at, byte)
+            });
+        }
     }
 }
 

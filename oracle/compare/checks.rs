@@ -57,7 +57,7 @@ fn only_checked(trial: &mut Trial) {
 const ONE_THIRTEENTH: usize = 0x4EC4_EC4E_C4EC_4EC5;
 
 /// Places about the last frame, the same with a high bit more, and huge ones.
-fn asked(length: usize) -> Vec<usize> {
+pub fn asked(length: usize) -> Vec<usize> {
     let mut asked: Vec<usize> = (0..=length / FRAME + 3).collect();
     for k in 0..=length / FRAME + 3 {
         asked.extend([8, 16, 31, 32, 63].map(|bit| k + (1 << bit)));

@@ -3,6 +3,7 @@
 use crate::port::{Port, Spoil};
 use crate::random::Random;
 use std::fmt::Debug;
+use std::process::ExitCode;
 
 /// Mismatches shown of one part; all are counted.
 const SHOWN: u64 = 5;
@@ -173,6 +174,20 @@ impl Part {
         }
     }
 
+    /// Runs the part small, and says whether it found no mismatch.
+    pub fn small(&self, seed: u64) -> bool {
+        let trial = self.tried(seed, true, None);
+        let passed = trial.mismatches == 0;
+        println!(
+            "{} {}: {} cases, {} mismatches",
+            verdict(passed),
+            trial.name,
+            trial.cases,
+            trial.mismatches
+        );
+        passed
+    }
+
     /// The count of streams, where there are to be some.
     fn streams(&self, trial: &Trial) -> String {
         match self.minimum_streams {
@@ -208,4 +223,14 @@ pub fn verdict(passed: bool) -> &'static str {
     } else {
         "FAILED"
     }
+}
+
+/// Closes a run of these tests.
+pub fn close(tests: &[bool]) -> ExitCode {
+    let failed = tests.iter().filter(|passed| !**passed).count();
+    println!("{} passed, {failed} failed", tests.len() - failed);
+    if failed > 0 {
+        return ExitCode::FAILURE;
+    }
+    ExitCode::SUCCESS
 }

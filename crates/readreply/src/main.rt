@@ -1,8 +1,11 @@
 // Standard input: command byte, count byte, then what came over the line. Prints what the reply says.
 ghost use Rattle.reply.specs.Input.{OfSomeInput};
+use libc::STDERR_FILENO;
 use libc::STDIN_FILENO;
 use libc::STDOUT_FILENO;
 use reply::Input;
+
+mod usage;
 
 // Reads to the end of the input, which a read that fails ends too. A proved loop has to end, and nothing says that an input does:
 // so the loop counts its turns down, from a number that no run uses up.
@@ -23,6 +26,13 @@ fn read_all(frames: &mut [u8; 1105], buffer: &mut [u8]) -> Input
 }
 
 fn main() {
+    // A terminal is not read either: it takes some bytes for keys and changes others, so that a capture would not come whole.
+    if os::arg_count() > 1 || libc::isatty(STDIN_FILENO) != 0 {
+        let mut text = [0u8; 1024];
+        let n = usage::put_usage(&mut text);
+        io::write_all(STDERR_FILENO, &text[..n]);
+        return;
+    }
     let mut frames = [0u8; 1105];
     let mut buffer = io::large_buffer();
     let input = read_all(&mut frames, &mut buffer);

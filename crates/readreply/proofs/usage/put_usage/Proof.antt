@@ -1,0 +1,19 @@
+use borrow.Author.Needs.{needs}
+use Rattle.readreply.proofs.usage.put_usage.Statement.{statement}
+use Rattle.readreply.proofs.usage.put_usage.Tie as tie
+
+slice-aggregate-put-word : tie.Need-slice-aggregate-put-word
+slice-aggregate-put-word c = search needs
+
+put-word-requires : tie.Need-put-word-requires
+put-word-requires c κs = search needs
+
+same-length : tie.Need-same-length
+same-length c = search needs
+
+returns : tie.Need-returns
+returns c = c .before .before .put-word .ensures
+
+pub put-usage-spec : {M : Type 1} → statement M
+put-usage-spec =
+    tie.close (tie.spec slice-aggregate-put-word put-word-requires same-length returns)

@@ -1,0 +1,2 @@
+-- What `readreply` says of itself.
+pub mod Usage

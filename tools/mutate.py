@@ -240,3 +240,12 @@ def wrongs(text):
         if wrong not in seen:
             seen.add(wrong)
             yield text.count("\n", 0, start) + 1, wrong
+
+
+def differing(text, wrong):
+    """The changed lines of the wrong text, in one."""
+    old, new = text.split("\n"), wrong.split("\n")
+    first = next(i for i, (a, b) in enumerate(zip(old, new)) if a != b)
+    more = len(new) - len(old)
+    last = next((i for i in range(len(new), first, -1) if i - more < 1 or old[i - more - 1] != new[i - 1]), first)
+    return " ".join(" ".join(new[first:last]).split()) or f"without: {old[first].strip()}"

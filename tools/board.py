@@ -9,7 +9,7 @@ from collections import namedtuple
 # What is to be asked, in hexadecimal, what the board sends, in bytes, and after how many seconds.
 Exchange = namedtuple("Exchange", "question sends late", defaults=[0])
 HANG_UP = object()  # instead of what is sent
-PATIENCE = 30  # seconds for a question, or for a controller to end
+PATIENCE = 30  # seconds for a controller to end
 
 
 def frame(*content):
@@ -28,12 +28,14 @@ class Board:
         if raw:
             tty.setraw(self.line)
         self.hung_up = None  # when
+        self.over = threading.Event()  # nothing more will be asked
         self.playing = threading.Thread(target=self.play)
 
     def __enter__(self):
         return self
 
     def __exit__(self, *_):
+        self.over.set()
         if self.playing.ident:
             self.playing.join()
         if not self.hung_up:
@@ -62,8 +64,11 @@ class Board:
 
     def read(self, length):
         found = b""
-        while len(found) < length and select.select([self.board], [], [], PATIENCE)[0]:
-            found += os.read(self.board, length - len(found))
+        while len(found) < length:
+            if select.select([self.board], [], [], 0.1)[0]:
+                found += os.read(self.board, length - len(found))
+            elif self.over.is_set():
+                break
         return found
 
     def send(self, content):
@@ -88,7 +93,8 @@ class Board:
         return filled
 
     def close(self):
-        """What was wrong: another question than was to come, or one more."""
+        """The controller has ended. What was wrong: another question than was to come, or one more, or less."""
+        self.over.set()
         self.playing.join()
         if not self.hung_up and not self.faults and select.select([self.board], [], [], 0)[0]:
             self.faults.append(f"one more question: {os.read(self.board, 99).hex(' ')}")

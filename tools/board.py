@@ -57,10 +57,13 @@ class Board:
                 return
             time.sleep(late)
             if sends is HANG_UP:
-                os.close(self.board)
-                self.hung_up = time.monotonic()
+                self.hang_up()
                 return
             self.send(sends)
+
+    def hang_up(self):
+        os.close(self.board)
+        self.hung_up = time.monotonic()
 
     def read(self, length):
         found = b""

@@ -35,9 +35,7 @@ class Board:
         return self
 
     def __exit__(self, *_):
-        self.over.set()
-        if self.playing.ident:
-            self.playing.join()
+        self.finish()
         if not self.hung_up:
             os.close(self.board)
         os.close(self.line)
@@ -48,6 +46,12 @@ class Board:
 
     def start(self):
         self.playing.start()
+
+    def finish(self):
+        """Waits for no question that has not come."""
+        self.over.set()
+        if self.playing.ident:
+            self.playing.join()
 
     def play(self):
         for asked, sends, late in self.exchanges:
@@ -97,8 +101,7 @@ class Board:
 
     def close(self):
         """The controller has ended. What was wrong: another question than was to come, or one more, or less."""
-        self.over.set()
-        self.playing.join()
+        self.finish()
         if not self.hung_up and not self.faults and select.select([self.board], [], [], 0)[0]:
             self.faults.append(f"one more question: {os.read(self.board, 99).hex(' ')}")
         return self.faults

@@ -16,7 +16,7 @@ OTHER = {
 BETWEEN = {"(", ")", "{", "}", ";", "=", "if", "then", "else", "let", "in", "→", "×", "≡", "∷", "++", "&&", "||", "+", "-", "*", "/", "%", "^", "-ℤ", ":", "λ", ".", "≤", "<", "record", ","}
 SYMMETRIC = {"eqb", "min", "max"}  # whose arguments exchanged say the same
 JOINED = ["&&", "||", "++", "×"]  # a side of these can be left out
-SWAPPED = ["++", "×", "∷", "-", "/", "%", "-ℤ", "≤", "<"]  # and of these the sides can be exchanged
+SWAPPED = ["++", "∷", "-", "/", "%", "-ℤ", "≤", "<"]  # and of these the sides can be exchanged
 BOUND = re.compile(r"\([\w ′₁₂]+ : ")
 Token = namedtuple("Token", "text start end")
 

@@ -13,6 +13,7 @@ use Rattle.rules.specs.Ledger.{turns, run, total as counted}
 use Rattle.rules.specs.Reader.{Reader, Answer, fresh, complete, heldOf, untaken, did, booked, push, bad, answer, joined, status}
 use Rattle.rules.proofs.Examples.{answered, c90, frame90, line90}
 use Rattle.reader.specs.View.{chop, front, view}
+use Rattle.reader.specs.Told.{freshCounts}
 use Rattle.reader.specs.declared.Counts.{Counts}
 use Rattle.report.proofs.Examples.{example}
 use Rattle.list.specs.Numbered.{framesFor, replySize}
@@ -62,20 +63,21 @@ fresh95 = fresh record { command = 0x95; wanted = 3 }
 -- nothing; a first byte; a first byte twice, the second of which is the count; and these in one chunk
 pub first-two :
     (stateOf begun [] ≡ came 0 0 0 none)
+    × (stateOf (record { seen = 2; command = 0x90; count = 5; counts = freshCounts 0x90 1 }) [] ≡ came 2 0x90 5 (fresh c90))
     × (pushed (came 0 0 0 none) [] ≡ came 0 0 0 none)
     × (pushed (came 0 0 0 none) (0x95 ∷ []) ≡ came 1 0x95 0 none)
     × (pushed (came 1 0x95 0 none) [] ≡ came 1 0x95 0 none)
     × (pushed (came 1 0x95 0 none) (8 ∷ []) ≡ came 2 0x95 8 fresh95)
     × (pushed (came 0 0 0 none) (0x95 ∷ 8 ∷ []) ≡ came 2 0x95 8 fresh95)
 unfolding stateOf view chop front pushed fromFirst fromSecond streamed replySizeFor answer bad push did run turns look judge restarts sumRight sum total after drops stay booked counted complete heldOf untaken
-first-two = (refl, refl, refl, refl, refl, refl)
+first-two = (refl, refl, refl, refl, refl, refl, refl)
 
 -- the stream goes to the reader, cut or whole; where no such command can be asked, nothing is read
 pub streams :
     (pushed (came 2 0x90 5 (fresh c90)) (0 ∷ 0xA5 ∷ []) ≡ came 2 0x90 5 (answered c90 0 0 [] (0xA5 ∷ []) 2 1 0 false .reader))
     × (pushed (came 2 0x90 5 (answered c90 0 0 [] (0xA5 ∷ []) 2 1 0 false .reader)) frame90 ≡ came 2 0x90 5 (answered c90 0 0 (frame90 ∷ []) [] 15 2 0 false .reader))
     × (pushed (came 0 0 0 none) (0x90 ∷ 5 ∷ 0 ∷ 0xA5 ∷ frame90) ≡ came 2 0x90 5 (answered c90 0 0 (frame90 ∷ []) [] 15 2 0 false .reader))
-    × (pushed (came 2 0x99 5 none) frame90 ≡ came 2 0x99 5 none)
+    × (pushed (came 2 0x99 5 (fresh c90)) frame90 ≡ came 2 0x99 5 (fresh c90))
 unfolding pushed fromFirst fromSecond streamed replySizeFor answer bad push did run turns look judge restarts sumRight sum total after drops stay booked counted complete heldOf untaken
 streams = (refl, refl, refl, refl)
 

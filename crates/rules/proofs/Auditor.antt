@@ -6,12 +6,13 @@ use mathlib.Core.List.{List, [], _∷_, _++_}
 use mathlib.Core.Option.{Option, none, some}
 use Prim.Native.Nat.{ℕ, zero, suc, _+_, _*_, _≤_, _<_}
 use native.Mathlib.Omega.{arith}
-use lib.ListN.{length, getD, replicate, length-append}
+use lib.ListN.{length, take, getD, replicate, length-append}
+use Rattle.wire.specs.Bytes.{byteAt}
 use Rattle.frame.specs.Frame.{sum, total}
 use Rattle.rules.specs.Rules.{Config, Fate, noise, discarded as thrown, sumRight, restarts, judge, look, stay, after, drops}
 use Rattle.rules.specs.Ledger.{Line, discards, clears, spent, turns, run, total as counted}
 use Rattle.rules.specs.Reader.{Reader, Answer, wrap, fresh, complete, heldOf, untaken, did, booked, push, status, bad, answer, joined}
-use Rattle.rules.specs.Demand.{Lawful, ledgerOf, leftOf, Within, answers, Account, Collected, Demand, CutsDontMatter}
+use Rattle.rules.specs.Demand.{Lawful, ledgerOf, leftOf, Within, answers, Account, Valid, Collected, Demand, CutsDontMatter}
 use Rattle.rules.proofs.Examples.{answered, c90, c95, frame90, f1, f2, f3}
 
 -- the reader that is left after some chunks
@@ -84,6 +85,10 @@ read-frames demand =
     let k : Collected c95 (joined (first ∷ more)) (mixed .reader) = of-mixed demand .collected in
     let v = k .numbered 1 (omega arith) in
     (k .few, v .whole, v .start, v .total, v .command, v .number)
+
+-- and of any valid frame: its last byte is the sum of the twelve before it
+read-sum : (c : Config) (i : ℕ) (w : List ℕ) → Valid c i w → byteAt w 12 ≡ sum (take 12 w)
+read-sum c i w v = v .total
 
 -- the number is read as soon as two frames are wanted, and a complete reader has both
 abbrev c95-two : Config

@@ -12,6 +12,14 @@ OTHER = {
     "take": "drop", "drop": "take", "/": "%", "%": "/", "+": "*", "*": "+", "highByte": "lowByte", "lowByte": "highByte",
     "≤": "<", "<": "≤",
 }
+# Where they come from, for a file that names only the one.
+FROM = {
+    "mathlib.Core.Bool": ["_&&_", "_||_", "true", "false"],
+    "lib.Dec": ["ltb", "leb"],
+    "lib.ListN": ["take", "drop"],
+    "Prim.Native.Nat": ["_+_", "_*_", "_/_", "_%_", "min", "max", "_<_", "_≤_"],
+    "Rattle.uncoded.specs.wire_Bytes": ["highByte", "lowByte"],
+}
 # What stands between the parts of an expression; an application is what stands between two of these.
 BETWEEN = {"(", ")", "{", "}", ";", "=", "if", "then", "else", "let", "in", "→", "×", "≡", "∷", "++", "&&", "||", "+", "-", "*", "/", "%", "^", "-ℤ", ":", "λ", ".", "≤", "<", "record", ","}
 SYMMETRIC = {"eqb", "min", "max"}  # whose arguments exchanged say the same
@@ -50,6 +58,16 @@ def bodies(text):
         elif indent <= 2 and (found := re.search(r"(?<![=≡])=(?= |\n)", text[line.start():end])):
             equations.append((line.start() + found.end(), end))
     return equations, conditions
+
+
+def with_name(text, word):
+    """The text, with a line that brings the word in where it has none."""
+    for home, names in FROM.items():
+        for name in names:
+            if word == name.strip("_") and not re.search(rf"^use [\w.·]+\.\{{[^}}]*(?<![\w-]){re.escape(name)}(?![\w-])", text, re.M):
+                if not re.search(rf"^\s*(abbrev|unfoldable|pub)[^\n]* {re.escape(word)} :", text, re.M):
+                    return re.sub(r"^use ", f"use {home}.{{{name}}}\nuse ", text, count=1, flags=re.M)
+    return text
 
 
 def groups(toks):
@@ -112,7 +130,7 @@ class Changes:
     def put(self, start, end, new):
         wrong = self.text[:start] + new + self.text[end:]
         if wrong != self.text:
-            self.found.append((start, wrong))
+            self.found.append((start, with_name(wrong, new)))
 
     def swap(self, one, other):
         """Two pieces (start, end) exchanged, the first before the second; but names that are bound come in their order."""
@@ -243,8 +261,8 @@ def wrongs(text):
 
 
 def differing(text, wrong):
-    """The changed lines of the wrong text, in one."""
-    old, new = text.split("\n"), wrong.split("\n")
+    """The changed lines of the wrong text, in one; not a name that was brought in."""
+    old, new = ([line for line in lines.split("\n") if not line.startswith("use ")] for lines in (text, wrong))
     first = next(i for i, (a, b) in enumerate(zip(old, new)) if a != b)
     more = len(new) - len(old)
     last = next((i for i in range(len(new), first, -1) if i - more < 1 or old[i - more - 1] != new[i - 1]), first)

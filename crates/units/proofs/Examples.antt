@@ -35,9 +35,9 @@ p8-exact : map (λ (n : ℕ). nearest (pos n)) (16_777_220 ∷ 16_777_216 ∷ []
 unfolding ofInt
 p8-exact = refl
 
--- "then limits to 0..1000": 99.94 and 99.95, 100.04, 100.05, 6553.5 and −0.1 percent, by their bits
-limited : map (λ (b : ℕ). setSocCount (ofBits binary32 b)) (0x42C7_E148 ∷ 0x42C7_E666 ∷ 0x42C8_147B ∷ 0x42C8_199A ∷ 0x45CC_CC00 ∷ 0xBDCC_CCCD ∷ [])
-    ≡ 999 ∷ 1000 ∷ 1000 ∷ 1000 ∷ 1000 ∷ 0 ∷ []
+-- "then limits to 0..1000": 99.94 and 99.95, 100.04, 100.05, 6553.5, −0.1 and −50 percent, by their bits
+limited : map (λ (b : ℕ). setSocCount (ofBits binary32 b)) (0x42C7_E148 ∷ 0x42C7_E666 ∷ 0x42C8_147B ∷ 0x42C8_199A ∷ 0x45CC_CC00 ∷ 0xBDCC_CCCD ∷ 0xC248_0000 ∷ [])
+    ≡ 999 ∷ 1000 ∷ 1000 ∷ 1000 ∷ 1000 ∷ 0 ∷ 0 ∷ []
 unfolding setSocCount ofBits
 limited = refl
 

@@ -69,9 +69,18 @@ fn folder() -> Result<PathBuf, String> {
     Ok(here.join(folder))
 }
 
-/// Where one stands. Cargo runs this in the crate's folder, but not itself; without /proc the shell says it.
+/// Where one stands. Cargo stands there too, though it runs this in the crate's folder.
 fn here() -> Option<PathBuf> {
+    folder_of_cargo().or_else(|| env::var_os("PWD").map(PathBuf::from))
+}
+
+#[cfg(unix)]
+fn folder_of_cargo() -> Option<PathBuf> {
     let cargo = std::os::unix::process::parent_id();
-    let of_cargo = std::fs::read_link(format!("/proc/{cargo}/cwd")).ok();
-    of_cargo.or_else(|| env::var_os("PWD").map(PathBuf::from))
+    std::fs::read_link(format!("/proc/{cargo}/cwd")).ok()
+}
+
+#[cfg(not(unix))]
+fn folder_of_cargo() -> Option<PathBuf> {
+    None
 }

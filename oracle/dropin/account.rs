@@ -1,39 +1,35 @@
 //! `daly::account`, which the Rust has not: beside the Rust's floats, the model of the reader's rules, and document
 //! 01's words for the rest.
 
+mod counts;
+mod reader;
+
 use crate::answer::{Answer, Value};
 use crate::frames::{self, FRAME, START};
-use crate::question::Question;
-use crate::reader::model::Model;
-use crate::readers::KINDS;
-use crate::replies::{damage, known_mode};
-use crate::sides::rust;
-use crate::streams::{self, Asked};
 use crate::trial::{Part, Trial};
-use daly::account::{self, CellVoltageRangeCounts, MosfetStatusCounts, SocCounts};
-use daly::protocol::{FrameReader, MosfetMode};
+use daly::account;
 use daly::Error;
 
 pub const PARTS: &[Part] = &[
     Part {
         name: "account: whole counts, and the Rust's floats made of them",
         minimum: 18_000,
-        ask: counts,
+        ask: counts::counts,
     },
     Part {
         name: "account: millivolts of every count, and the Rust's volts made of them",
         minimum: 2_560,
-        ask: millivolts,
+        ask: counts::millivolts,
     },
     Part {
         name: "account: what became of every byte, after every push, by the reader's rules",
         minimum: 3_700,
-        ask: readers,
+        ask: reader::readers,
     },
     Part {
         name: "account: a refused reader takes nothing and counts nothing",
         minimum: 20,
-        ask: refused,
+        ask: reader::refused,
     },
     Part {
         name: "account: the pack check, by its rule",
@@ -67,204 +63,6 @@ fn told<T>(result: Result<T, Error>, values: impl FnOnce(T) -> Vec<Value>) -> An
 fn whole(number: impl Into<i64>) -> Value {
     Value::Whole(number.into())
 }
-
-fn over(count: i32, parts: f32) -> Value {
-    Value::Bits((count as f32 / parts).to_bits())
-}
-
-/// The Rust's answer without the record as `{:?}` shows it, which stands last.
-fn of_rust(question: &Question) -> Answer {
-    let mut answer = rust::answer(question);
-    if let Answer::Values(values) = &mut answer {
-        values.pop();
-    }
-    answer
-}
-
-// ---- Whole counts
-
-fn soc(counts: SocCounts) -> Vec<Value> {
-    vec![
-        over(counts.total_voltage.into(), 10.0),
-        over(counts.current, 10.0),
-        over(counts.soc_percent.into(), 10.0),
-    ]
-}
-
-fn cell_voltage_range(counts: CellVoltageRangeCounts) -> Vec<Value> {
-    vec![
-        over(counts.highest_voltage.into(), 1000.0),
-        whole(counts.highest_cell),
-        over(counts.lowest_voltage.into(), 1000.0),
-        whole(counts.lowest_cell),
-    ]
-}
-
-fn mosfet_status(counts: MosfetStatusCounts) -> Vec<Value> {
-    let mode = match counts.mode {
-        MosfetMode::Stationary => 0,
-        MosfetMode::Charging => 1,
-        MosfetMode::Discharging => 2,
-    };
-    vec![
-        Value::Whole(mode),
-        Value::Flag(counts.charging_mosfet),
-        Value::Flag(counts.discharging_mosfet),
-        whole(counts.bms_cycles),
-        Value::Bits((counts.capacity_ah as f32 / 1000.0).to_bits()),
-        whole(counts.capacity_ah),
-    ]
-}
-
-fn counts(trial: &mut Trial) {
-    for command in [0x90, 0x91, 0x93] {
-        for _ in 0..trial.rounds(3_000) {
-            let right = frames::reply(&mut trial.random, command, FRAME);
-            let any = frames::any_reply(&mut trial.random, command);
-            for reply in [right, any] {
-                decode(trial, command, reply);
-            }
-        }
-    }
-}
-
-fn decode(trial: &mut Trial, command: u8, mut reply: Vec<u8>) {
-    known_mode(command, &mut reply);
-    let found = match command {
-        0x90 => told(SocCounts::decode(&reply), soc),
-        0x91 => told(CellVoltageRangeCounts::decode(&reply), cell_voltage_range),
-        _ => told(MosfetStatusCounts::decode(&reply), mosfet_status),
-    };
-    let question = Question::Decode {
-        command,
-        count: 0,
-        reply: reply.clone(),
-    };
-    let mut wanted = of_rust(&question);
-    if let (0x93, Answer::Values(values)) = (command, &mut wanted) {
-        // An f32 can lose digits of the capacity.
-        values.push(whole(u32::from_be_bytes(reply[8..12].try_into().unwrap())));
-    }
-    trial.judge(&wanted, found, &question);
-}
-
-fn millivolts(trial: &mut Trial) {
-    for count in 0..=255_u8 {
-        for _ in 0..trial.rounds(10) {
-            let frames = usize::from(count).div_ceil(3);
-            let mut reply = frames::numbered(&mut trial.random, 0x95, frames);
-            match trial.random.below(8) {
-                0 => reply.truncate(trial.random.below(reply.len() + 1)),
-                1 if frames > 0 => damage(&mut trial.random, &mut reply),
-                _ => {}
-            }
-            let found = told(account::cell_millivolts(&reply, count), |cells| {
-                let volts = cells.into_iter().map(|cell| over(cell.into(), 1000.0));
-                volts.collect()
-            });
-            let question = Question::Decode {
-                command: 0x95,
-                count,
-                reply,
-            };
-            trial.judge(&of_rust(&question), found, &question);
-        }
-    }
-}
-
-// ---- The reader
-
-/// The reader's account, and whether its parts make up what was taken.
-fn accounted(reader: &FrameReader) -> Vec<Value> {
-    let account = reader.account();
-    let frames = (account.collected as u32).wrapping_add(account.cleared);
-    let bytes = (account.held as u32).wrapping_add(account.discarded);
-    vec![
-        whole(account.taken),
-        whole(account.discarded),
-        whole(account.cleared),
-        Value::Whole(account.wanted as i64),
-        Value::Whole(account.collected as i64),
-        Value::Whole(account.held as i64),
-        Value::Flag(account.mark),
-        Value::Flag(account.taken == frames.wrapping_mul(13).wrapping_add(bytes)),
-        Value::Flag(reader.is_complete()),
-        Value::Whole(reader.missing() as i64),
-    ]
-}
-
-fn modelled(model: &Model) -> Vec<Value> {
-    vec![
-        whole(model.taken),
-        whole(model.discarded),
-        whole(model.cleared),
-        Value::Whole(model.wanted as i64),
-        Value::Whole((model.collected.len() / FRAME) as i64),
-        Value::Whole(model.held.len() as i64),
-        Value::Flag(model.mark),
-        Value::Flag(true),
-        Value::Flag(model.is_complete()),
-        Value::Whole(model.missing() as i64),
-    ]
-}
-
-fn readers(trial: &mut Trial) {
-    for wanted in 0..=85 {
-        for make in KINDS {
-            for _ in 0..trial.rounds(4) {
-                let asked = Asked::drawn(&mut trial.random, wanted);
-                let stream = make(&mut trial.random, asked);
-                push(trial, asked, &stream);
-            }
-        }
-    }
-}
-
-/// The whole stream, cut at random, into a reader and into the model.
-fn push(trial: &mut Trial, asked: Asked, stream: &[u8]) {
-    let request = asked.request(&mut trial.random);
-    let mut reader = FrameReader::new(&request, asked.size);
-    let mut model = Model::new(asked.command, asked.size);
-    let (mut wanted, mut found) = (modelled(&model), accounted(&reader));
-    let chunks = streams::cut(&mut trial.random, stream);
-    let lengths: Vec<usize> = chunks.iter().map(|chunk| chunk.len()).collect();
-    for chunk in chunks {
-        let said = model.push(chunk);
-        wanted.extend([Value::Whole(said.took as i64), whole(said.status)]);
-        wanted.extend(modelled(&model));
-        let pushed = reader.push_counted(chunk);
-        let number = pushed.said.map_or_else(Error::number, |()| 0);
-        found.extend([Value::Whole(pushed.took as i64), whole(number)]);
-        found.extend(accounted(&reader));
-    }
-    let question = Question::Read {
-        request,
-        size: asked.size,
-        stream: stream.to_vec(),
-        cuttings: vec![lengths],
-    };
-    trial.judge(&Answer::Values(wanted), Answer::Values(found), &question);
-}
-
-fn refused(trial: &mut Trial) {
-    for size in (1_106..).step_by(977).take(10) {
-        for (request, number) in [(&[0xA5, 0x40][..], 7), (&[0xA5, 0x40, 0x90], 6)] {
-            let mut reader = FrameReader::new(request, size);
-            let pushed = reader.push_counted(&frames::frame(&mut trial.random, 0x90, &[1]));
-            let mut found = vec![Value::Whole(pushed.took as i64)];
-            found.push(whole(pushed.said.map_or_else(Error::number, |()| 0)));
-            found.extend(accounted(&reader));
-            let mut wanted = vec![whole(0), Value::Whole(number)];
-            wanted.extend(vec![whole(0); 6]);
-            wanted.extend([Value::Flag(false), Value::Flag(true)]);
-            wanted.extend([Value::Flag(false), whole(13)]);
-            let question = (request, size);
-            trial.judge(&Answer::Values(wanted), Answer::Values(found), &question);
-        }
-    }
-}
-
-// ---- The pack check, the sum, frames, numbers
 
 fn packs(trial: &mut Trial) {
     for count in [1, 2, 8, 16, 254, 255, 256, 300] {

@@ -72,6 +72,7 @@ impl Account {
 
 /// What a push answers.
 #[derive(Clone, Copy, Debug, PartialEq, Eq)]
+#[must_use = "it may say that too many bytes were discarded"]
 pub struct Pushed {
     /// How many bytes of the chunk were taken. Those behind them are the caller's: a complete reader takes none.
     pub took: usize,

@@ -3,6 +3,7 @@
 // Of the comparison's files, only what makes replies and streams is used.
 #![allow(dead_code)]
 
+mod account;
 mod answer;
 mod differences;
 #[path = "../compare/reader/discards.rs"]
@@ -16,6 +17,12 @@ mod plan;
 mod question;
 #[path = "../compare/random.rs"]
 mod random;
+/// The model of document 01's reader.
+#[path = "../compare/reader"]
+mod reader {
+    pub mod model;
+    pub mod told;
+}
 mod readers;
 mod replies;
 mod requests;
@@ -40,6 +47,7 @@ fn run(plan: Plan) -> Vec<bool> {
         replies::PARTS,
         readers::PARTS,
         differences::PARTS,
+        account::PARTS,
     ]
     .concat();
     let fixed: Vec<(bool, u64)> = parts.iter().map(|part| part.run(plan)).collect();

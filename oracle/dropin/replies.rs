@@ -49,7 +49,7 @@ pub const PARTS: &[Part] = &[
 ];
 
 /// Keeps clear of unknown modes, which are a listed difference.
-fn known_mode(command: u8, reply: &mut [u8]) {
+pub fn known_mode(command: u8, reply: &mut [u8]) {
     if command == 0x93 && reply.len() > DATA + 1 && frames::sum(reply) == reply[reply.len() - 1] {
         reply[DATA] %= 3;
         frames::put_sum(reply);

@@ -86,13 +86,19 @@ const _: (
     ),
 );
 
-/// What else a controller may count on: `{:?}`, copies, equal faults, voltages as a slice, one address.
+/// What else a controller may count on: `{:?}`, copies, equal faults, errors among others, voltages as a slice, one
+/// address, one delay.
 const _: fn(&CellVoltages) -> &[f32] = <CellVoltages as std::ops::Deref>::deref;
 const _: fn(&ErrorCode, &ErrorCode) -> bool = <ErrorCode as PartialEq>::eq;
-const _: [fn(); 2] = [
+const _: [fn(); 4] = [
     debug::<(Address, FrameReader, Error)>,
     copied::<(MosfetMode, IOState, ErrorCode)>,
+    error::<Error>,
+    error::<ErrorCode>,
 ];
 const _: () = assert!(Address::Host as u8 == 0x40);
+const _: std::time::Duration = MINIMUM_DELAY;
+const _: () = assert!(MINIMUM_DELAY.as_micros() == 4_000);
+const fn error<T: std::error::Error + Send + Sync + 'static>() {}
 const fn debug<T: Debug>() {}
 const fn copied<T: Debug + Clone>() {}

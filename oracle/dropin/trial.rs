@@ -6,6 +6,7 @@ use crate::plan::Plan;
 use crate::question::Question;
 use crate::random::Random;
 use crate::sides::{dropin, rust};
+use std::fmt::Debug;
 
 /// Mismatches shown of one part; all are counted.
 pub const SHOWN: usize = 5;
@@ -82,7 +83,8 @@ impl Trial {
         self.judge(of_dropin, dropin::answer(&question), &question);
     }
 
-    fn judge(&mut self, wanted: &Answer, mut found: Answer, question: &Question) {
+    /// The drop-in must have given this answer.
+    pub fn judge(&mut self, wanted: &Answer, mut found: Answer, question: &impl Debug) {
         if let Some(spoil) = self.spoil.filter(|spoil| spoil.case <= self.cases) {
             found.spoil(spoil.bit);
             self.spoil = None;

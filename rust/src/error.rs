@@ -2,8 +2,9 @@
 
 use std::fmt::{self, Display, Formatter};
 
-/// Why there is no reading. The first four are those of `dalybms_lib`.
+/// Why there is no reading. The first four are those of `dalybms_lib`; more may come, so a `match` needs a `_`.
 #[derive(Clone, Copy, Debug, PartialEq, Eq)]
+#[non_exhaustive]
 pub enum Error {
     /// The reply is shorter than needed.
     ReplySizeError,
@@ -22,6 +23,8 @@ pub enum Error {
     RequestTooShort,
     /// The reader's fields contradict one another. No reader of this crate comes to it.
     BadState,
+    /// A pack check has more than 255 cells. `dalybms_lib` has no pack check.
+    CountTooLarge,
     /// The library answered this number, which it is proved not to do: another library was linked.
     Impossible(u8),
 }
@@ -39,8 +42,32 @@ impl Error {
             6 => Self::ReplyTooLong,
             7 => Self::RequestTooShort,
             8 => Self::BadState,
+            11 => Self::CountTooLarge,
             other => Self::Impossible(other),
         })
+    }
+
+    /// The refusal's number, as the library and `readreply` tell it.
+    ///
+    /// ```
+    /// use daly::{protocol::Soc, Error};
+    ///
+    /// assert_eq!(Soc::decode(&[]).map_err(Error::number).unwrap_err(), 1);
+    /// assert_eq!(Error::CountTooLarge.number(), 11);
+    /// ```
+    pub fn number(self) -> u8 {
+        match self {
+            Self::ReplySizeError => 1,
+            Self::UnexpectedFrame => 2,
+            Self::CheckSumError => 3,
+            Self::FrameNoError => 4,
+            Self::UnknownMode => 5,
+            Self::ReplyTooLong => 6,
+            Self::RequestTooShort => 7,
+            Self::BadState => 8,
+            Self::CountTooLarge => 11,
+            Self::Impossible(number) => number,
+        }
     }
 }
 
@@ -56,6 +83,7 @@ impl Display for Error {
             Self::ReplyTooLong => "the reader has no room for such a reply",
             Self::RequestTooShort => "the request is too short",
             Self::BadState => "the reader's state is bad",
+            Self::CountTooLarge => "the cells are too many",
             Self::Impossible(number) => return write!(f, "the library answered {number}"),
         })
     }

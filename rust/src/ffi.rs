@@ -1,11 +1,12 @@
 //! What `include/daly.h` declares, and calls of it that are safe for every argument.
 
+pub mod account;
 mod reader;
 mod told;
 
 use crate::Error;
-pub use told::Reader;
 use told::{CellVoltageRange, List, MosfetStatus, Soc, Status, TemperatureRange};
+pub use told::{Counts, Reader};
 
 /// Bytes of a frame.
 pub const FRAME: usize = 13;

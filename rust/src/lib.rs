@@ -16,10 +16,13 @@
 //! assert_eq!(charge(&line), Ok(87.4));
 //! ```
 //!
+//! The module [`account`] has what `dalybms_lib` has not: what became of every byte of the line, the board's
+//! own whole numbers, and whether the cells add up to their pack.
+//!
 //! All of it is done by calls into `libdaly.a`, of which every function is proved. Nothing is worked out
 //! here: answers are turned into the types above, and memory is lent. Build the archive by
-//! `rt staticlib daly`; it runs on x86-64 Linux. `DALY_LIB_DIR` names its folder where that is not
-//! `../target/staticlib` beside this crate.
+//! `rt staticlib daly`; it runs on x86-64 Linux. `DALY_LIB_DIR` names its folder, from where you stand, where
+//! that is not `../target/staticlib` beside this crate.
 //!
 //! # Where it parts from `dalybms_lib`
 //!
@@ -31,9 +34,11 @@
 //!   `dalybms_lib` panics. `FrameReader::new` answers a reader and no error, so such a reader is made and
 //!   remembers its refusal: it is never complete, lacks a frame, has no bytes, and every push answers the
 //!   error. [`protocol::FrameReader::refusal`], which `dalybms_lib` has not, tells it at once.
-//! - `dalybms_lib`'s own `Error` was not given: [`Error`] has the four variants that its `protocol` names.
-//! - Left out: `MINIMUM_DELAY` (4 milliseconds), the sentences of `ErrorCode` (its `Display`), serde, log
-//!   lines, and the clients.
+//! - `dalybms_lib`'s own `Error` was not given: [`Error`] has the four variants that its `protocol` names, and
+//!   more, so a `match` on it needs a `_`.
+//! - The sentences of [`Error`] and [`protocol::ErrorCode`] (their `Display`) are this crate's own, and `{:?}` of
+//!   a reader shows counts and no bytes.
+//! - Left out: serde, log lines, and the clients.
 //!
 //! The library builds requests from the host's address, 40 hexadecimal, and
 //! [`protocol::Address`] has that one alone, here as in `dalybms_lib`: no other request can be asked for.
@@ -41,6 +46,7 @@
 #![deny(missing_docs)]
 #![deny(unsafe_op_in_unsafe_fn)]
 
+pub mod account;
 mod error;
 mod ffi;
 pub mod protocol;

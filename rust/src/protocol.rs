@@ -16,6 +16,9 @@ pub use readings::{
     CellVoltageRange, IOState, MosfetMode, MosfetStatus, Soc, Status, TemperatureRange,
 };
 
+/// How long to leave a board alone between two questions, as `dalybms_lib` has it.
+pub const MINIMUM_DELAY: std::time::Duration = std::time::Duration::from_millis(4);
+
 /// Who sends a request. The library builds requests of the host's alone, and there is no other.
 #[derive(Debug)]
 #[repr(u8)]

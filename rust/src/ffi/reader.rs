@@ -20,10 +20,9 @@ impl Reader {
         (opened.reader, Error::check(opened.number))
     }
 
-    pub fn push(&mut self, chunk: &[u8]) -> Result<(), Error> {
+    pub fn push(&mut self, chunk: &[u8]) -> Said {
         // SAFETY: as in `super::check`; the reader is alive and lent to nobody else.
-        let said = unsafe { daly_reader_push(self, chunk.as_ptr(), chunk.len()) };
-        Error::check(said.status)
+        unsafe { daly_reader_push(self, chunk.as_ptr(), chunk.len()) }
     }
 
     /// 0 of a bad state.

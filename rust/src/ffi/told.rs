@@ -11,11 +11,28 @@ pub struct Soc {
 }
 
 #[repr(C)]
+pub struct SocCounts {
+    pub number: u8,
+    pub total_voltage: u16,
+    pub current: i32,
+    pub soc_percent: u16,
+}
+
+#[repr(C)]
 pub struct CellVoltageRange {
     pub number: u8,
     pub highest_voltage: f32,
     pub highest_cell: u8,
     pub lowest_voltage: f32,
+    pub lowest_cell: u8,
+}
+
+#[repr(C)]
+pub struct CellVoltageRangeCounts {
+    pub number: u8,
+    pub highest_voltage: u16,
+    pub highest_cell: u8,
+    pub lowest_voltage: u16,
     pub lowest_cell: u8,
 }
 
@@ -36,6 +53,16 @@ pub struct MosfetStatus {
     pub discharging_mosfet: u8,
     pub bms_cycles: u8,
     pub capacity_ah: f32,
+}
+
+#[repr(C)]
+pub struct MosfetStatusCounts {
+    pub number: u8,
+    pub mode: u8,
+    pub charging_mosfet: u8,
+    pub discharging_mosfet: u8,
+    pub bms_cycles: u8,
+    pub capacity_ah: u32,
 }
 
 #[repr(C)]
@@ -60,6 +87,13 @@ pub struct Status {
 pub struct List {
     pub number: u8,
     pub count: usize,
+}
+
+#[repr(C)]
+pub struct Pack {
+    pub number: u8,
+    pub agrees: u8,
+    pub difference: i32,
 }
 
 #[derive(Clone, Copy, Debug)]

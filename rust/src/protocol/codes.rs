@@ -2,14 +2,24 @@
 
 use super::{plain_request, Address};
 use crate::{ffi, Error};
+use std::fmt::{self, Display, Formatter};
 
-/// Declares the faults, and all of them in their order.
+/// Declares the faults with what each says, and all of them in their order.
 macro_rules! codes {
-    ($($(#[$doc:meta])* $name:ident,)*) => {
+    ($($name:ident $words:literal,)*) => {
         /// A fault or an alarm of the board.
         #[derive(Debug, Clone, PartialEq)]
         pub enum ErrorCode {
-            $($(#[$doc])* $name,)*
+            $(#[doc = $words] $name,)*
+        }
+
+        /// Words of this crate's own.
+        impl Display for ErrorCode {
+            fn fmt(&self, f: &mut Formatter<'_>) -> fmt::Result {
+                f.write_str(match self {
+                    $(Self::$name => $words,)*
+                })
+            }
         }
 
         /// A fault stands at the position by which the library names it.
@@ -17,103 +27,57 @@ macro_rules! codes {
     };
 }
 
+impl std::error::Error for ErrorCode {}
+
 codes! {
-    /// Cell voltage is too high (Level 1).
-    CellVoltHighLevel1,
-    /// Cell voltage is too high (Level 2).
-    CellVoltHighLevel2,
-    /// Cell voltage is too low (Level 1).
-    CellVoltLowLevel1,
-    /// Cell voltage is too low (Level 2).
-    CellVoltLowLevel2,
-    /// Total voltage is too high (Level 1).
-    SumVoltHighLevel1,
-    /// Total voltage is too high (Level 2).
-    SumVoltHighLevel2,
-    /// Total voltage is too low (Level 1).
-    SumVoltLowLevel1,
-    /// Total voltage is too low (Level 2).
-    SumVoltLowLevel2,
-    /// Charging temperature too high (Level 1).
-    ChargeTempHighLevel1,
-    /// Charging temperature too high (Level 2).
-    ChargeTempHighLevel2,
-    /// Charging temperature too low (Level 1).
-    ChargeTempLowLevel1,
-    /// Charging temperature too low (Level 2).
-    ChargeTempLowLevel2,
-    /// Discharging temperature too high (Level 1).
-    DischargeTempHighLevel1,
-    /// Discharging temperature too high (Level 2).
-    DischargeTempHighLevel2,
-    /// Discharging temperature too low (Level 1).
-    DischargeTempLowLevel1,
-    /// Discharging temperature too low (Level 2).
-    DischargeTempLowLevel2,
-    /// Charge overcurrent (Level 1).
-    ChargeOvercurrentLevel1,
-    /// Charge overcurrent (Level 2).
-    ChargeOvercurrentLevel2,
-    /// Discharge overcurrent (Level 1).
-    DischargeOvercurrentLevel1,
-    /// Discharge overcurrent (Level 2).
-    DischargeOvercurrentLevel2,
-    /// State of Charge (SOC) too high (Level 1).
-    SocHighLevel1,
-    /// State of Charge (SOC) too high (Level 2).
-    SocHighLevel2,
-    /// State of Charge (SOC) too low (Level 1).
-    SocLowLevel1,
-    /// State of Charge (SOC) too low (Level 2).
-    SocLowLevel2,
-    /// Excessive voltage difference between cells (Level 1).
-    DiffVoltLevel1,
-    /// Excessive voltage difference between cells (Level 2).
-    DiffVoltLevel2,
-    /// Excessive temperature difference between sensors (Level 1).
-    DiffTempLevel1,
-    /// Excessive temperature difference between sensors (Level 2).
-    DiffTempLevel2,
-    /// Charging MOSFET over-temperature alarm.
-    ChargeMosTempHighAlarm,
-    /// Discharging MOSFET over-temperature alarm.
-    DischargeMosTempHighAlarm,
-    /// Charging MOSFET temperature sensor failure.
-    ChargeMosTempSensorErr,
-    /// Discharging MOSFET temperature sensor failure.
-    DischargeMosTempSensorErr,
-    /// Charging MOSFET adhesion failure (stuck closed).
-    ChargeMosAdhesionErr,
-    /// Discharging MOSFET adhesion failure (stuck closed).
-    DischargeMosAdhesionErr,
-    /// Charging MOSFET breaker failure (stuck open).
-    ChargeMosOpenCircuitErr,
-    /// Discharging MOSFET breaker failure (stuck open).
-    DischargeMosOpenCircuitErr,
-    /// AFE (Analog Front End) acquisition chip malfunction.
-    AfeCollectChipErr,
-    /// Monomer (cell voltage) collection circuit drop off.
-    VoltageCollectDropped,
-    /// Single temperature sensor failure.
-    CellTempSensorErr,
-    /// EEPROM storage failure.
-    EepromErr,
-    /// RTC (Real-Time Clock) malfunction.
-    RtcErr,
-    /// Pre-charge failure.
-    PrechangeFailure,
-    /// General communication malfunction.
-    CommunicationFailure,
-    /// Internal communication module malfunction.
-    InternalCommunicationFailure,
-    /// Current detection module failure.
-    CurrentModuleFault,
-    /// Total voltage detection module failure.
-    SumVoltageDetectFault,
-    /// Short circuit protection failure.
-    ShortCircuitProtectFault,
-    /// Low voltage condition forbids charging.
-    LowVoltForbiddenChargeFault,
+    CellVoltHighLevel1 "a cell is over its voltage limit, level 1",
+    CellVoltHighLevel2 "a cell is over its voltage limit, level 2",
+    CellVoltLowLevel1 "a cell is under its voltage limit, level 1",
+    CellVoltLowLevel2 "a cell is under its voltage limit, level 2",
+    SumVoltHighLevel1 "the pack is over its voltage limit, level 1",
+    SumVoltHighLevel2 "the pack is over its voltage limit, level 2",
+    SumVoltLowLevel1 "the pack is under its voltage limit, level 1",
+    SumVoltLowLevel2 "the pack is under its voltage limit, level 2",
+    ChargeTempHighLevel1 "too hot to charge, level 1",
+    ChargeTempHighLevel2 "too hot to charge, level 2",
+    ChargeTempLowLevel1 "too cold to charge, level 1",
+    ChargeTempLowLevel2 "too cold to charge, level 2",
+    DischargeTempHighLevel1 "too hot to discharge, level 1",
+    DischargeTempHighLevel2 "too hot to discharge, level 2",
+    DischargeTempLowLevel1 "too cold to discharge, level 1",
+    DischargeTempLowLevel2 "too cold to discharge, level 2",
+    ChargeOvercurrentLevel1 "too much current into the pack, level 1",
+    ChargeOvercurrentLevel2 "too much current into the pack, level 2",
+    DischargeOvercurrentLevel1 "too much current out of the pack, level 1",
+    DischargeOvercurrentLevel2 "too much current out of the pack, level 2",
+    SocHighLevel1 "the state of charge is over its limit, level 1",
+    SocHighLevel2 "the state of charge is over its limit, level 2",
+    SocLowLevel1 "the state of charge is under its limit, level 1",
+    SocLowLevel2 "the state of charge is under its limit, level 2",
+    DiffVoltLevel1 "the cells' voltages are too far apart, level 1",
+    DiffVoltLevel2 "the cells' voltages are too far apart, level 2",
+    DiffTempLevel1 "the sensors' temperatures are too far apart, level 1",
+    DiffTempLevel2 "the sensors' temperatures are too far apart, level 2",
+    ChargeMosTempHighAlarm "the charging MOSFET is too hot",
+    DischargeMosTempHighAlarm "the discharging MOSFET is too hot",
+    ChargeMosTempSensorErr "the charging MOSFET's temperature is not measured",
+    DischargeMosTempSensorErr "the discharging MOSFET's temperature is not measured",
+    ChargeMosAdhesionErr "the charging MOSFET does not switch off",
+    DischargeMosAdhesionErr "the discharging MOSFET does not switch off",
+    ChargeMosOpenCircuitErr "the charging MOSFET does not switch on",
+    DischargeMosOpenCircuitErr "the discharging MOSFET does not switch on",
+    AfeCollectChipErr "the chip that measures the cells has failed",
+    VoltageCollectDropped "the wiring that measures the cells has come off",
+    CellTempSensorErr "a temperature sensor has failed",
+    EepromErr "the EEPROM has failed",
+    RtcErr "the board's clock has failed",
+    PrechangeFailure "precharging has failed",
+    CommunicationFailure "communication has failed",
+    InternalCommunicationFailure "communication inside the board has failed",
+    CurrentModuleFault "the current is not measured",
+    SumVoltageDetectFault "the pack's voltage is not measured",
+    ShortCircuitProtectFault "the protection against short circuits has failed",
+    LowVoltForbiddenChargeFault "the voltage is too low to charge",
 }
 
 impl ErrorCode {

@@ -1,5 +1,6 @@
 //! The reader that finds the frames of a reply on the line.
 
+use crate::account::{Account, Pushed};
 use crate::{ffi, Error};
 use std::fmt::{self, Debug, Formatter};
 
@@ -57,10 +58,27 @@ impl FrameReader {
     /// It answers [`Error::UnexpectedFrame`] where more than 512 bytes were discarded since the reader was
     /// made. The bytes are taken all the same.
     pub fn push(&mut self, data: &[u8]) -> Result<(), Error> {
-        match self.refusal {
-            Some(error) => Err(error),
-            None => self.reader.push(data),
+        self.push_counted(data).said
+    }
+
+    /// As [`FrameReader::push`], and tells how many of the bytes it took. `dalybms_lib` has no such question.
+    pub fn push_counted(&mut self, data: &[u8]) -> Pushed {
+        if let Some(error) = self.refusal {
+            return Pushed {
+                took: 0,
+                said: Err(error),
+            };
         }
+        let said = self.reader.push(data);
+        Pushed {
+            took: said.took,
+            said: Error::check(said.status),
+        }
+    }
+
+    /// What became of the bytes so far. `dalybms_lib` has no such question.
+    pub fn account(&self) -> Account {
+        Account::of(&self.reader.counts)
     }
 
     /// The frames, one after the other, complete or not.

@@ -126,7 +126,7 @@ pub enum MosfetMode {
 }
 
 impl MosfetMode {
-    fn at(mode: u8) -> Result<Self, Error> {
+    pub(crate) fn at(mode: u8) -> Result<Self, Error> {
         match mode {
             0 => Ok(Self::Stationary),
             1 => Ok(Self::Charging),

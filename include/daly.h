@@ -195,8 +195,9 @@ struct daly_status daly_status(const uint8_t *reply, size_t len);
 /* ---- Lists, into lent places */
 
 /*
- * `room` is how many places `out` has. Done, `count` values stand at its front and the places behind them
- * are as they were. Refusals: 1, 9, then frame by frame; of 95 and 96: 4, 2, 3, of 97 and 98: 2, 3.
+ * No list says how many values it has: ask 94 first. `room` is how many places `out` has. Done, `count` values
+ * stand at its front and the places behind them are as they were. Refusals: 1, 9, then frame by frame; of 95 and
+ * 96: 4, 2, 3, of 97 and 98: 2, 3.
  */
 struct daly_list {
     uint8_t number;

@@ -1,7 +1,7 @@
 -- Document 01's example of `readreply`, from the input's bytes to the text, and the inputs that are refused. Assumes nothing.
 use mathlib.Core.Path.{_≡_, refl, ap, _∙_}
-use mathlib.Core.Bool.{false}
-use mathlib.Core.List.{List, [], _∷_}
+use mathlib.Core.Bool.{true, false}
+use mathlib.Core.List.{List, [], _∷_, map}
 use Prim.Native.Nat.{ℕ}
 use Rattle.frame.specs.Frame.{total, sum}
 use Rattle.text.specs.Words.{word}
@@ -18,7 +18,7 @@ use Rattle.reader.specs.declared.Counts.{Counts}
 use Rattle.report.proofs.Examples.{example}
 use Rattle.list.specs.Numbered.{framesFor, replySize}
 use Rattle.reply.specs.declared.Input.{Input}
-use Rattle.reply.specs.Output.{replySizeFor, wantedFor, asked, reported, outputOf}
+use Rattle.reply.specs.Output.{known, replySizeFor, wantedFor, asked, reported, outputOf}
 use Rattle.reply.specs.Input.{State, stateOf, begun, streamed, fromSecond, fromFirst, pushed, printed, tallyOf, Came, HoweverCut, OfSomeInput}
 
 -- "Input `90 00 00 A5 A5 01 90 08 02 0B 00 00 74 B7 03 6A E3` prints, whole"
@@ -35,6 +35,10 @@ pub refusals :
     (word "refused 7\n" ∷ word "refused 7\n" ∷ word "refused 10\n" ∷ word "refused 10\n" ∷ [])
 unfolding reported line field decimal
 refusals = refl
+
+-- "command not 90 to 98"
+pub commands : map known (0x8F ∷ 0x90 ∷ 0x98 ∷ 0x99 ∷ []) ≡ false ∷ true ∷ true ∷ false ∷ []
+commands = refl
 
 -- 95 and 96 with counts 0, 8 and 255, and one frame whatever the count for 90 and 97
 pub sizes : replySizeFor 0x95 0 ∷ replySizeFor 0x95 8 ∷ replySizeFor 0x95 255 ∷ replySizeFor 0x96 0 ∷ replySizeFor 0x96 8 ∷ replySizeFor 0x96 255 ∷ replySizeFor 0x90 255 ∷ replySizeFor 0x97 255 ∷ []

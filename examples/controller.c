@@ -72,13 +72,11 @@ static int open_line(const char *path)
 /* One reply. No more is read than the next frame lacks, so what follows stays on the line. */
 static int collect(int line, const struct asked *asked, long until, struct daly_reader *reader)
 {
-    struct daly_opened opened = daly_reader_new(asked->request, DALY_FRAME, asked->reply_size);
-    if (opened.number != DALY_DONE)
-        return refused(opened.number);
-    *reader = opened.reader;
-    while (!daly_reader_is_complete(*reader).complete) {
+    uint8_t opened = daly_reader_new(reader, asked->request, DALY_FRAME, asked->reply_size);
+    if (opened != DALY_DONE)
+        return refused(opened);
+    for (size_t missing; (missing = daly_reader_missing(reader).missing) > 0;) {
         uint8_t chunk[DALY_FRAME];
-        size_t missing = daly_reader_missing(*reader).missing;
         struct pollfd wait = {.fd = line, .events = POLLIN};
         long left = until - now();
         if (left <= 0) {
@@ -174,7 +172,7 @@ static int ask(int line, const struct asked *asked)
         int status = collect(line, asked, until, &reader);
         if (status != DONE)
             return status;
-        copied = daly_reader_copy_out(reader, reply, sizeof reply);
+        copied = daly_reader_copy_out(&reader, reply, sizeof reply);
         if (copied.number != DALY_DONE)
             return refused(copied.number);
     } while (copied.count == DALY_FRAME && memcmp(reply, asked->request, DALY_FRAME) == 0);

@@ -1,12 +1,22 @@
--- The push on a reader lent by the caller. Definitions only.
+-- The reader where the caller has it: what is seen of it, a new one, and the push. Definitions only.
 use Prim.Native.Nat.{ℕ}
 use mathlib.Core.Path.{_≡_}
 use mathlib.Core.Bool.{true}
 use mathlib.Core.List.{List}
-use Rattle.rules.specs.Reader.{bad}
+use Rattle.rules.specs.Reader.{Reader, bad}
 use Rattle.reader.specs.View.{view, Answered}
+use Rattle.reader.specs.Told.{opened}
+use Rattle.reader.specs.declared.Opened.{Opened}
 use Rattle.reader.specs.declared.FrameReader.{FrameReader}
 use Rattle.reader.specs.declared.Said.{Said}
+
+-- a lent reader as the rules see it
+abbrev pub seen : FrameReader → Reader
+seen r = view (r .counts) (r .frames)
+
+-- a new reader in the caller's place: the number that is answered, and the reader afterwards, to the last place
+abbrev pub OpenedLent : List ℕ → ℕ → ℕ → FrameReader → Type 0
+OpenedLent request size number after = _≡_ {A = Opened} (record { number = number; reader = after }) (opened request size)
 
 -- "push also exists as the Rust has it, on a reader lent by the caller, with the same meaning": what it says, and the reader afterwards
 abbrev pub AnsweredLent : FrameReader → List ℕ → Said → FrameReader → Type 0

@@ -11,11 +11,13 @@ size_t read_by_c(const uint8_t *wire, size_t step, uint8_t cells, float *volts)
         return 0;
     if (daly_reader_new(&reader, request, sizeof request, daly_cell_voltages_reply_size(cells)) != DALY_DONE)
         return 0;
-    for (size_t missing; (missing = daly_reader_missing(&reader).missing) > 0;) {
+    for (size_t missing = daly_reader_missing(&reader).missing; missing > 0;) {
         size_t length = missing < step ? missing : step;
-        if (daly_reader_push(&reader, wire, length).status != DALY_DONE)
+        struct daly_said said = daly_reader_push(&reader, wire, length);
+        if (said.status != DALY_DONE)
             return 0;
         wire += length;
+        missing = said.missing;
     }
     struct daly_list copied = daly_reader_copy_out(&reader, reply, sizeof reply);
     if (copied.number != DALY_DONE)

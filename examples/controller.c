@@ -75,7 +75,7 @@ static int collect(int line, const struct asked *asked, long until, struct daly_
     uint8_t opened = daly_reader_new(reader, asked->request, DALY_FRAME, asked->reply_size);
     if (opened != DALY_DONE)
         return refused(opened);
-    for (size_t missing; (missing = daly_reader_missing(reader).missing) > 0;) {
+    for (size_t missing = daly_reader_missing(reader).missing; missing > 0;) {
         uint8_t chunk[DALY_FRAME];
         struct pollfd wait = {.fd = line, .events = POLLIN};
         long left = until - now();
@@ -93,6 +93,7 @@ static int collect(int line, const struct asked *asked, long until, struct daly_
         struct daly_said said = daly_reader_push(reader, chunk, (size_t)length);
         if (said.status != DALY_DONE)
             return refused(said.status);
+        missing = said.missing;
     }
     return DONE;
 }

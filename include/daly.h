@@ -212,9 +212,12 @@ struct daly_counts {
 /*
  * The collected frames stand at the front of `frames`, the held bytes behind them. 1,152 bytes, aligned to 8:
  * the counts at 0, in 40 bytes, the frames at 40, then 7 of padding.
- * You have it, and each call is lent it where it lies. For as long as daly_reader_missing tells more than 0, read
- * at most so many bytes and push them; examples/controller.c does so.
- * No call here needs more than 304 bytes of stack (measured on x86-64, its own return address with it).
+ * You have it, and each call is lent it where it lies. One call a turn is enough: a push tells how many bytes the
+ * next frame then still needs, as daly_reader_missing does of a new reader, and that is 0 when and only when the
+ * reader is complete or bad. While it is more, read at most so many bytes and push them; examples/controller.c
+ * does so.
+ * No call of the library needs more than 304 bytes of stack. That is measured, by bench/stack, with the call's return
+ * address; no proof speaks of it.
  */
 struct daly_reader {
     struct daly_counts counts;
@@ -230,15 +233,17 @@ uint8_t daly_reader_new(struct daly_reader *reader, const uint8_t *request, size
 /*
  * A push into your reader, which moves on where it lies. It says 0; 2 where more than 512 bytes were ever
  * discarded, with the chunk taken all the same; 8 where the reader's fields contradict one another, and then
- * it stays as it was. `took` is how many bytes of the chunk were taken: a complete reader takes none.
+ * it stays as it was. `missing` is what daly_reader_missing then tells. `took` is how many bytes of the chunk were
+ * taken: a complete reader takes none.
  */
 struct daly_said {
     uint8_t status;
+    uint8_t missing;
     size_t took;
 };
 struct daly_said daly_reader_push(struct daly_reader *reader, const uint8_t *chunk, size_t len);
 
-/* How many bytes the next frame still needs, 0 when and only when complete: 0 or 8, and with 8 also 0. */
+/* How many bytes the next frame still needs, 0 once complete: `number` is 0, or 8 with 0 bytes. */
 struct daly_missing {
     uint8_t number;
     size_t missing;

@@ -134,19 +134,20 @@ static struct daly_reader pushed(struct daly_reader reader)
     const uint8_t noise[2] = {0x00, 0xA5};
     struct daly_said said = daly_reader_push(&reader, noise, 2);
     struct daly_missing m = daly_reader_missing(&reader);
-    test(said.status == 0 && said.took == 2 && reader.counts.discarded == 1 && reader.counts.held == 1, "daly_reader_push: noise and a start");
+    test(said.status == 0 && said.missing == 12 && said.took == 2 && reader.counts.discarded == 1 && reader.counts.held == 1, "daly_reader_push: noise and a start");
     test(m.number == 0 && m.missing == 12, "daly_reader_missing");
 
     said = daly_reader_push(&reader, soc, 13);
     const struct daly_counts *c = &reader.counts;
-    test(said.status == 0 && said.took == 13 && c->taken == 15 && c->discarded == 2 && c->cleared == 0 && c->collected == 1 && c->held == 0 &&
+    test(said.status == 0 && said.missing == 0 && said.took == 13 && c->taken == 15 && c->discarded == 2 && c->cleared == 0 && c->collected == 1 && c->held == 0 &&
              memcmp(reader.frames, soc, 13) == 0,
          "daly_reader_push: document 01's example");
 
     struct daly_reader bad = reader;
     bad.counts.held = 13;
     said = daly_reader_push(&bad, soc, 13);
-    test(said.status == DALY_BAD_STATE && said.took == 0 && bad.counts.held == 13 && bad.counts.taken == 15 && memcmp(bad.frames, reader.frames, DALY_FRAMES) == 0,
+    test(said.status == DALY_BAD_STATE && said.missing == 0 && said.took == 0 && bad.counts.held == 13 && bad.counts.taken == 15 &&
+             memcmp(bad.frames, reader.frames, DALY_FRAMES) == 0,
          "daly_reader_push: a bad state");
     test(daly_reader_missing(&bad).number == DALY_BAD_STATE, "daly_reader_missing: a bad state");
     return reader;

@@ -256,7 +256,7 @@ static void put_decoded(struct text *out, struct bytes question)
 
 /* ---- Readers */
 
-/* The last status, and all bytes taken. An empty stream is pushed too, since even that has a status. */
+/* The last status and what is then missing, and all bytes taken. An empty stream is pushed too, since even that has a status. */
 static struct daly_said push_in_chunks(struct daly_reader *reader, struct bytes stream, size_t size)
 {
     struct daly_said all = daly_reader_push(reader, stream.at, 0);
@@ -264,6 +264,7 @@ static struct daly_said push_in_chunks(struct daly_reader *reader, struct bytes 
         size_t left = stream.length - at;
         struct daly_said said = daly_reader_push(reader, stream.at + at, left < size ? left : size);
         all.status = said.status;
+        all.missing = said.missing;
         all.took += said.took;
     }
     return all;
@@ -286,7 +287,7 @@ static void put_read(struct text *out, struct bytes question)
     struct daly_completed completed = daly_reader_is_complete(&reader);
     struct daly_missing missing = daly_reader_missing(&reader);
     put_byte(out, opened);
-    put_byte(out, said.took == reader.counts.taken ? said.status : NO_BYTE);
+    put_byte(out, said.took == reader.counts.taken && said.missing == missing.missing ? said.status : NO_BYTE);
     put_byte(out, completed.number == DALY_DONE ? completed.complete : NO_BYTE);
     put_byte(out, missing.number == DALY_DONE ? missing.missing : NO_BYTE);
     put_collected(out, &reader);

@@ -14,14 +14,14 @@ use denote.Ref.{now}
 use denote.Triple.Clauses.{AtExit}
 use denote.Triple.Entry.{Args}
 use Rattle.wire.proofs.Decides.{Decides, same, both}
-use Rattle.reader.specs.Lent.{AnsweredLent, OpenedLent, seen}
+use Rattle.reader.specs.Lent.{TurnedLent, OpenedLent, seen}
 use Rattle.reader.specs.Told.{missingTold, completeTold}
 use Rattle.reader.specs.declared.FrameReader.{FrameReader}
 use Rattle.reader.specs.declared.Opened.{Opened}
-use Rattle.reader.specs.declared.Said.{Said}
+use Rattle.reader.specs.declared.Turn.{Turn}
 use Rattle.reader.specs.declared.Missing.{Missing}
 use Rattle.reader.specs.declared.Completed.{Completed}
-use Rattle.reader.proofs.Agreeing.{LentDecides, answered-once}
+use Rattle.reader.proofs.Agreeing.{TurnDecides, turned-once}
 use Rattle.daly.specs.declared.lists.ListTold.{ListTold}
 use Rattle.daly.specs.Lists.{TellsCollected}
 use Rattle.daly.proofs.Asked.{pinned}
@@ -125,13 +125,13 @@ NewLentDecides =
 daly-reader-new-decides : NewLentDecides
 daly-reader-new-decides request size r q x y s t = (ap (λ (o : Opened). o .number) (s ∙ sym t), ap (λ (o : Opened). o .reader) (s ∙ sym t))
 
--- of `daly_reader_push` the `ensures` is `AnsweredLent`, of the reader at entry, the chunk, the answer and the reader at exit
-push-says : {M : Type 1} (𝓤 : URA M) (H : Heap 𝓤) (A : Atoms 𝓤) (mem : Memory → SProp 𝓤) (run : Routine → Fun 𝓤) (κs : Lfts 2) (a : Args push.signature κs) (r : Said) (out : AtExit push.ended κs)
-    → push.clauses 𝓤 H A mem run κs a .ensures tt r out ≡ fact 𝓤 (AnsweredLent (now (a .0)) (now (a .1 .0)) r (now (out .0)))
+-- of `daly_reader_push` the `ensures` is `TurnedLent`, of the reader at entry, the chunk, the answer and the reader at exit
+push-says : {M : Type 1} (𝓤 : URA M) (H : Heap 𝓤) (A : Atoms 𝓤) (mem : Memory → SProp 𝓤) (run : Routine → Fun 𝓤) (κs : Lfts 2) (a : Args push.signature κs) (r : Turn) (out : AtExit push.ended κs)
+    → push.clauses 𝓤 H A mem run κs a .ensures tt r out ≡ fact 𝓤 (TurnedLent (now (a .0)) (now (a .1 .0)) r (now (out .0)))
 push-says 𝓤 H A mem run κs a r out = refl
 
-daly-reader-push-decides : LentDecides
-daly-reader-push-decides = answered-once
+daly-reader-push-decides : TurnDecides
+daly-reader-push-decides = turned-once
 
 -- of the asks the `ensures` is an equation, of the reader at entry and the answer
 missing-says : {M : Type 1} (𝓤 : URA M) (H : Heap 𝓤) (A : Atoms 𝓤) (mem : Memory → SProp 𝓤) (run : Routine → Fun 𝓤) (κs : Lfts 1) (a : Args ask-missing.signature κs) (r : Missing) (out : AtExit ask-missing.ended κs)

@@ -1,7 +1,7 @@
 // The reader, for C, where the caller has it: a `&FrameReader` and a `&mut FrameReader` are pointers, and no call copies the frames but the one that copies them out.
 ghost use mathlib.Core.Path.{_≡_};
 ghost use Rattle.reader.specs.View.{view};
-ghost use Rattle.reader.specs.Lent.{AnsweredLent, OpenedLent, seen};
+ghost use Rattle.reader.specs.Lent.{TurnedLent, OpenedLent, seen};
 ghost use Rattle.reader.specs.Told.{missingTold, completeTold};
 ghost use Rattle.daly.specs.Lists.{TellsCollected};
 use crate::lists::ListTold;
@@ -10,12 +10,12 @@ use reader::Completed;
 use reader::Counts;
 use reader::FrameReader;
 use reader::Missing;
-use reader::Said;
+use reader::Turn;
 use reader::completed_of;
 use reader::copy_from;
 use reader::missing_of;
 use reader::open_counts;
-use reader::push_into;
+use reader::turn_into;
 
 // A new reader, into the caller's: its numbers, and an array of zeros. It answers 0, 7 or 6.
 #[no_mangle]
@@ -28,14 +28,19 @@ pub extern "C" fn daly_reader_new(reader: &mut FrameReader, request: &[u8], repl
     o.number
 }
 
-// A push on a reader that the caller lends, in place: its frames are lent on, and no byte of them is copied that is not collected or held.
+// A push on a reader that the caller lends, in place: its frames are lent on, and no byte of them is copied that is not collected or held. It tells what is then missing, so that a turn of a loop has one call. The numbers that no push changes are not stored again.
 #[no_mangle]
-pub extern "C" fn daly_reader_push(reader: &mut FrameReader, chunk: &[u8]) -> Said
-    ensures { λ r. ⌜ AnsweredLent (now (reader .entry)) (now (chunk .entry)) r (now (reader .exit)) ⌝ }
+pub extern "C" fn daly_reader_push(reader: &mut FrameReader, chunk: &[u8]) -> Turn
+    ensures { λ r. ⌜ TurnedLent (now (reader .entry)) (now (chunk .entry)) r (now (reader .exit)) ⌝ }
 {
-    let t = push_into(&mut reader.frames, reader.counts, chunk);
-    reader.counts = t.counts;
-    t.said
+    let t = turn_into(&mut reader.frames, reader.counts, chunk);
+    reader.counts.mark = t.counts.mark;
+    reader.counts.taken = t.counts.taken;
+    reader.counts.discarded = t.counts.discarded;
+    reader.counts.cleared = t.counts.cleared;
+    reader.counts.collected = t.counts.collected;
+    reader.counts.held = t.counts.held;
+    t.turn
 }
 
 #[no_mangle]

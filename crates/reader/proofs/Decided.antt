@@ -5,7 +5,9 @@ use Rattle.wire.proofs.Decides.{Decides, same, both}
 use Rattle.list.proofs.Decoding.{pinned}
 use Rattle.reader.specs.View.{view}
 use Rattle.reader.proofs.Promise.{told, told-once, pushed-once}
+use Rattle.reader.proofs.Turning.{turned-into-once}
 use Rattle.reader.proofs.push_into.Reads as push-into
+use Rattle.reader.proofs.turn_into.Reads as turn-into
 use Rattle.reader.proofs.missing_of.Reads as missing-of
 use Rattle.reader.proofs.completed_of.Reads as completed-of
 use Rattle.reader.proofs.copy_from.Reads as copy-from
@@ -18,6 +20,9 @@ use Rattle.reader.proofs.FrameReader.copy_out.Reads as FrameReader-copy
 
 push-into-decides : Decides push-into.Post (λ κs r s. both r (view (r .counts) (now (s .0))))
 push-into-decides κs a x y s t = told-once
+
+turn-into-decides : Decides turn-into.Post (λ κs r s. both r (view (r .counts) (now (s .0))))
+turn-into-decides κs a x y s t = turned-into-once
 
 missing-of-decides : Decides missing-of.Post (λ κs r s. r)
 missing-of-decides κs a x y s t = same

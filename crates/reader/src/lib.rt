@@ -1,10 +1,12 @@
 // The reader of a reply's frames: the rules of the crate `rules`, on bytes that come in any chunks.
 ghost use mathlib.Core.Path.{_≡_};
+ghost use Prim.Native.Nat.{_-_, _≤_, _<_};
 ghost use lib.ListN.{length};
 ghost use Rattle.rules.specs.Reader.{copyCheck, joined};
 ghost use Rattle.list.specs.Listed.{Decodes};
 ghost use Rattle.reader.specs.View.{view, Answered};
 ghost use Rattle.reader.specs.Told.{opened, openingOf, freshCounts, missingTold, completeTold};
+ghost use Rattle.reader.specs.Lent.{TurnedInto};
 use frame::Refusal;
 use list::Listed;
 use moves::advance;
@@ -59,6 +61,21 @@ pub struct Said {
 #[repr(C)]
 pub struct Told {
     pub said: Said,
+    pub counts: Counts,
+}
+
+// What a push says to one who reads the line: that, and how many bytes the next frame then still needs.
+#[repr(C)]
+pub struct Turn {
+    pub status: u8,
+    pub missing: u8,
+    pub took: usize,
+}
+
+// What it then answers beside the frames.
+#[repr(C)]
+pub struct Turned {
+    pub turn: Turn,
     pub counts: Counts,
 }
 
@@ -117,6 +134,37 @@ pub fn push_into(frames: &mut [u8; 1105], c: Counts, chunk: &[u8]) -> Told
         said: Said {
             status: state::status_of(mark),
             took: m.took,
+        },
+        counts: next,
+    }
+}
+
+// How many bytes the next frame needs after a push: a reader that was not refused is not in a bad state.
+fn missing_after(status: u8, next: Counts) -> u8
+    requires { ⌜ ((status ≡ 8 → ⊥) → next .held ≤ 12) ⌝ }
+    ensures { λ r. ⌜ (status ≡ 8 → r ≡ 0) × ((status ≡ 8 → ⊥) → next .wanted ≤ next .collected → r ≡ 0) × ((status ≡ 8 → ⊥) → next .collected < next .wanted → r ≡ 13 - next .held) ⌝ }
+{
+    if status == 8 {
+        return 0;
+    }
+    if next.wanted <= next.collected {
+        return 0;
+    }
+    (13 - next.held) as u8
+}
+
+// The push that also tells what is then missing, so that a turn of a loop has one call.
+pub fn turn_into(frames: &mut [u8; 1105], c: Counts, chunk: &[u8]) -> Turned
+    ensures { λ r. ⌜ TurnedInto (now (frames .entry)) c (now (chunk .entry)) (r .turn) (r .counts) (now (frames .exit)) ⌝ }
+{
+    let t = push_into(frames, c, chunk);
+    let said = t.said;
+    let next = t.counts;
+    Turned {
+        turn: Turn {
+            status: said.status,
+            missing: missing_after(said.status, next),
+            took: said.took,
         },
         counts: next,
     }

@@ -12,7 +12,7 @@ extern "C" {
         len: usize,
         reply_size: usize,
     ) -> u8;
-    fn daly_reader_push(reader: *mut Reader, chunk: *const u8, len: usize) -> Said;
+    fn daly_reader_push(reader: *mut Reader, chunk: *const u8, len: usize) -> Turn;
     fn daly_push_by_value(reader: Reader, chunk: *const u8, len: usize) -> Pushed;
     fn daly_push_into(frames: *mut u8, counts: Counts, chunk: *const u8, len: usize) -> PushedInto;
     fn daly_push_lent(reader: *mut Reader, chunk: *const u8, len: usize) -> Said;
@@ -57,6 +57,26 @@ impl Way {
 
 /// A push on a lent reader.
 type AskLent = unsafe extern "C" fn(*mut Reader, *const u8, usize) -> Said;
+
+/// The push in place also tells what is then missing: just what the ask then says.
+unsafe extern "C" fn push_in_place(reader: *mut Reader, chunk: *const u8, len: usize) -> Said {
+    // SAFETY: as the caller has it.
+    let (turn, asked) = unsafe {
+        (
+            daly_reader_push(reader, chunk, len),
+            daly_reader_missing(reader),
+        )
+    };
+    assert_eq!(
+        usize::from(turn.missing),
+        asked.missing,
+        "a push and the ask"
+    );
+    Said {
+        status: turn.status,
+        took: turn.took,
+    }
+}
 
 /// A reader with a fence on either side.
 #[repr(C)]
@@ -115,8 +135,7 @@ impl Port {
         let mut reader = Reader::spoiled();
         // SAFETY: pointer and length are those of a live slice; of an empty one the pointer is not null. The
         // reader is alive and lent to nobody else.
-        let number =
-            unsafe { daly_reader_new(&mut reader, request.as_ptr(), request.len(), size) };
+        let number = unsafe { daly_reader_new(&mut reader, request.as_ptr(), request.len(), size) };
         self.answered(Opened { number, reader })
     }
 
@@ -143,7 +162,7 @@ impl Port {
                 unsafe { daly_push_in_chunks(frames, reader.counts, bytes, length, size) }
             }),
             Way::Lent => lent(reader, daly_push_lent, chunk),
-            Way::InPlace => lent(reader, daly_reader_push, chunk),
+            Way::InPlace => lent(reader, push_in_place, chunk),
         };
         self.answered(after)
     }

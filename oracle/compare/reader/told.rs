@@ -52,6 +52,14 @@ pub struct Said {
     pub took: usize,
 }
 
+/// What the push in place says.
+#[repr(C)]
+pub struct Turn {
+    pub status: u8,
+    pub missing: u8,
+    pub took: usize,
+}
+
 /// By value.
 #[repr(C)]
 pub struct Pushed {

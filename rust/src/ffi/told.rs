@@ -88,6 +88,7 @@ pub struct Reader {
 #[repr(C)]
 pub struct Said {
     pub status: u8,
+    pub missing: u8,
     pub took: usize,
 }
 

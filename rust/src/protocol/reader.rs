@@ -68,7 +68,7 @@ impl FrameReader {
             return Err(error);
         }
         let said = self.reader.push(data);
-        self.missing = self.reader.missing();
+        self.missing = said.missing.into();
         Error::check(said.status)
     }
 

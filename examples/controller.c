@@ -47,20 +47,22 @@ static int refused(uint8_t number)
 /* One reply. No more is read than the next frame lacks, so what follows stays on the line. */
 static int collect(int line, long until, const uint8_t *request, size_t reply_size, struct reply *reply)
 {
-    struct daly_opened opened = daly_reader_new(request, DALY_FRAME, reply_size);
-    if (opened.number != DALY_DONE)
-        return refused(opened.number);
-    while (!daly_reader_is_complete(opened.reader).complete) {
+    struct daly_reader reader;
+    uint8_t opened = daly_reader_new(&reader, request, DALY_FRAME, reply_size);
+    if (opened != DALY_DONE)
+        return refused(opened);
+    for (size_t missing = daly_reader_missing(&reader).missing; missing > 0;) {
         uint8_t chunk[DALY_FRAME];
         size_t length;
-        int status = receive(line, until, daly_reader_missing(opened.reader).missing, chunk, &length);
+        int status = receive(line, until, missing, chunk, &length);
         if (status != DONE)
             return status;
-        struct daly_said said = daly_reader_push(&opened.reader, chunk, length);
+        struct daly_said said = daly_reader_push(&reader, chunk, length);
         if (said.status != DALY_DONE)
             return refused(said.status);
+        missing = said.missing;
     }
-    struct daly_list copied = daly_reader_copy_out(opened.reader, reply->bytes, sizeof reply->bytes);
+    struct daly_list copied = daly_reader_copy_out(&reader, reply->bytes, sizeof reply->bytes);
     reply->length = copied.count;
     return copied.number == DALY_DONE ? DONE : refused(copied.number);
 }

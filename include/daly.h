@@ -253,46 +253,53 @@ struct daly_counts {
 /*
  * The collected frames stand at the front of `frames`, the held bytes behind them. 1,152 bytes, aligned to 8:
  * the counts at 0, in 40 bytes, the frames at 40, then 7 of padding.
+ * You have it, and each call is lent it where it lies. One call a turn is enough: a push tells how many bytes the
+ * next frame then still needs, as daly_reader_missing does of a new reader, and that is 0 when and only when the
+ * reader is complete or bad. While it is more, read at most so many bytes and push them; examples/controller.c
+ * does so.
+ * No call of the library needs more than 304 bytes of stack. That is measured, by bench/stack, with the call's return
+ * address; no proof speaks of it.
  */
 struct daly_reader {
     struct daly_counts counts;
     uint8_t frames[DALY_FRAMES];
 };
 
-/* A reader for the reply to `request`, of `reply_size` bytes: 0, or 7 or 6 with a reader that is all zero. */
-struct daly_opened {
-    uint8_t number;
-    struct daly_reader reader;
-};
-struct daly_opened daly_reader_new(const uint8_t *request, size_t len, size_t reply_size);
+/*
+ * Makes your reader one for the reply to `request`, of `reply_size` bytes: 0, or 7 or 6 with a reader that is
+ * all zero. What lay in it before is not looked at.
+ */
+uint8_t daly_reader_new(struct daly_reader *reader, const uint8_t *request, size_t len, size_t reply_size);
 
 /*
  * A push into your reader, which moves on where it lies. It says 0; 2 where more than 512 bytes were ever
  * discarded, with the chunk taken all the same; 8 where the reader's fields contradict one another, and then
- * it stays as it was. `took` is how many bytes of the chunk were taken: a complete reader takes none.
+ * it stays as it was. `missing` is what daly_reader_missing then tells. `took` is how many bytes of the chunk were
+ * taken: a complete reader takes none.
  */
 struct daly_said {
     uint8_t status;
+    uint8_t missing;
     size_t took;
 };
 struct daly_said daly_reader_push(struct daly_reader *reader, const uint8_t *chunk, size_t len);
 
-/* How many bytes the next frame still needs, 0 when complete: 0 or 8. */
+/* How many bytes the next frame still needs, 0 once complete: `number` is 0, or 8 with 0 bytes. */
 struct daly_missing {
     uint8_t number;
     size_t missing;
 };
-struct daly_missing daly_reader_missing(struct daly_reader reader);
+struct daly_missing daly_reader_missing(const struct daly_reader *reader);
 
 /* Whether all wanted frames are there: 0 or 8. */
 struct daly_completed {
     uint8_t number;
     bool complete;
 };
-struct daly_completed daly_reader_is_complete(struct daly_reader reader);
+struct daly_completed daly_reader_is_complete(const struct daly_reader *reader);
 
 /* The collected frames, one after the other, complete or not: 0, 8 or 9. The decoders read them. */
-struct daly_list daly_reader_copy_out(struct daly_reader reader, uint8_t *out, size_t room);
+struct daly_list daly_reader_copy_out(const struct daly_reader *reader, uint8_t *out, size_t room);
 
 #ifdef __cplusplus
 }

@@ -199,40 +199,54 @@ static struct daly_reader pushed(struct daly_reader reader)
 {
     const uint8_t noise[2] = {0x00, 0xA5};
     struct daly_said said = daly_reader_push(&reader, noise, 2);
-    struct daly_missing m = daly_reader_missing(reader);
-    test(said.status == 0 && said.took == 2 && reader.counts.discarded == 1 && reader.counts.held == 1, "daly_reader_push: noise and a start");
+    struct daly_missing m = daly_reader_missing(&reader);
+    test(said.status == 0 && said.missing == 12 && said.took == 2 && reader.counts.discarded == 1 && reader.counts.held == 1, "daly_reader_push: noise and a start");
     test(m.number == 0 && m.missing == 12, "daly_reader_missing");
 
     said = daly_reader_push(&reader, soc, 13);
     const struct daly_counts *c = &reader.counts;
-    test(said.status == 0 && said.took == 13 && c->taken == 15 && c->discarded == 2 && c->cleared == 0 && c->collected == 1 && c->held == 0 &&
+    test(said.status == 0 && said.missing == 0 && said.took == 13 && c->taken == 15 && c->discarded == 2 && c->cleared == 0 && c->collected == 1 && c->held == 0 &&
              memcmp(reader.frames, soc, 13) == 0,
          "daly_reader_push: document 01's example");
 
     struct daly_reader bad = reader;
     bad.counts.held = 13;
     said = daly_reader_push(&bad, soc, 13);
-    test(said.status == DALY_BAD_STATE && said.took == 0 && bad.counts.held == 13 && bad.counts.taken == 15 && memcmp(bad.frames, reader.frames, DALY_FRAMES) == 0,
+    test(said.status == DALY_BAD_STATE && said.missing == 0 && said.took == 0 && bad.counts.held == 13 && bad.counts.taken == 15 &&
+             memcmp(bad.frames, reader.frames, DALY_FRAMES) == 0,
          "daly_reader_push: a bad state");
-    test(daly_reader_missing(bad).number == DALY_BAD_STATE, "daly_reader_missing: a bad state");
+    test(daly_reader_missing(&bad).number == DALY_BAD_STATE, "daly_reader_missing: a bad state");
     return reader;
+}
+
+/* Field by field, since padding is not specified. */
+static bool same(const struct daly_reader *a, const struct daly_reader *b)
+{
+    const struct daly_counts *x = &a->counts, *y = &b->counts;
+    return x->command == y->command && x->mark == y->mark && x->taken == y->taken && x->discarded == y->discarded && x->cleared == y->cleared &&
+           x->wanted == y->wanted && x->collected == y->collected && x->held == y->held && memcmp(a->frames, b->frames, DALY_FRAMES) == 0;
 }
 
 static void reader(void)
 {
     uint8_t request[DALY_FRAME], out[DALY_FRAME];
     daly_request(0x90, false, 0, request);
-    test(daly_reader_new(request, 2, 13).number == DALY_REQUEST_TOO_SHORT, "daly_reader_new: a short request");
-    test(daly_reader_new(request, 13, 1106).number == DALY_REPLY_TOO_LONG, "daly_reader_new: a long reply");
-    struct daly_opened o = daly_reader_new(request, 13, 13);
-    test(o.number == 0 && o.reader.counts.command == 0x90 && o.reader.counts.wanted == 1, "daly_reader_new");
+    struct daly_reader r, zero = {0};
+    memset(&r, 0x5A, sizeof r);
+    test(daly_reader_new(&r, request, 2, 13) == DALY_REQUEST_TOO_SHORT && same(&r, &zero), "daly_reader_new: a short request");
+    memset(&r, 0x5A, sizeof r);
+    test(daly_reader_new(&r, request, 13, 1106) == DALY_REPLY_TOO_LONG && same(&r, &zero), "daly_reader_new: a long reply");
+    memset(&r, 0x5A, sizeof r);
+    zero.counts.command = 0x90;
+    zero.counts.wanted = 1;
+    test(daly_reader_new(&r, request, 13, 13) == 0 && same(&r, &zero), "daly_reader_new");
 
-    struct daly_reader r = pushed(o.reader);
-    struct daly_completed d = daly_reader_is_complete(r);
+    r = pushed(r);
+    struct daly_completed d = daly_reader_is_complete(&r);
     test(d.number == 0 && d.complete, "daly_reader_is_complete");
-    struct daly_list l = daly_reader_copy_out(r, out, 13);
+    struct daly_list l = daly_reader_copy_out(&r, out, 13);
     test(l.number == 0 && l.count == 13 && memcmp(out, soc, 13) == 0, "daly_reader_copy_out");
-    test(daly_reader_copy_out(r, out, 12).number == DALY_NO_ROOM, "daly_reader_copy_out: no room");
+    test(daly_reader_copy_out(&r, out, 12).number == DALY_NO_ROOM, "daly_reader_copy_out: no room");
 }
 
 int main(void)

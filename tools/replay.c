@@ -256,7 +256,7 @@ static void put_decoded(struct text *out, struct bytes question)
 
 /* ---- Readers */
 
-/* The last status, and all bytes taken. An empty stream is pushed too, since even that has a status. */
+/* The last status and what is then missing, and all bytes taken. An empty stream is pushed too, since even that has a status. */
 static struct daly_said push_in_chunks(struct daly_reader *reader, struct bytes stream, size_t size)
 {
     struct daly_said all = daly_reader_push(reader, stream.at, 0);
@@ -264,12 +264,13 @@ static struct daly_said push_in_chunks(struct daly_reader *reader, struct bytes 
         size_t left = stream.length - at;
         struct daly_said said = daly_reader_push(reader, stream.at + at, left < size ? left : size);
         all.status = said.status;
+        all.missing = said.missing;
         all.took += said.took;
     }
     return all;
 }
 
-static void put_collected(struct text *out, struct daly_reader reader)
+static void put_collected(struct text *out, const struct daly_reader *reader)
 {
     uint8_t frames[DALY_FRAMES] = {0};
     struct daly_list list = daly_reader_copy_out(reader, frames, DALY_FRAMES);
@@ -279,17 +280,17 @@ static void put_collected(struct text *out, struct daly_reader reader)
 static void put_read(struct text *out, struct bytes question)
 {
     const uint8_t request[3] = {0, 0, byte_at(question, 1)};
-    struct daly_opened opened = daly_reader_new(request, sizeof request, two_at(question, 2));
-    struct daly_reader reader = opened.reader;
+    struct daly_reader reader;
+    uint8_t opened = daly_reader_new(&reader, request, sizeof request, two_at(question, 2));
     size_t size = two_at(question, 4);
     struct daly_said said = push_in_chunks(&reader, behind(question, 6), size > 0 ? size : 1);
-    struct daly_completed completed = daly_reader_is_complete(reader);
-    struct daly_missing missing = daly_reader_missing(reader);
-    put_byte(out, opened.number);
-    put_byte(out, said.took == reader.counts.taken ? said.status : NO_BYTE);
+    struct daly_completed completed = daly_reader_is_complete(&reader);
+    struct daly_missing missing = daly_reader_missing(&reader);
+    put_byte(out, opened);
+    put_byte(out, said.took == reader.counts.taken && said.missing == missing.missing ? said.status : NO_BYTE);
     put_byte(out, completed.number == DALY_DONE ? completed.complete : NO_BYTE);
     put_byte(out, missing.number == DALY_DONE ? missing.missing : NO_BYTE);
-    put_collected(out, reader);
+    put_collected(out, &reader);
 }
 
 /* ---- The list */
@@ -561,13 +562,13 @@ static void print_read(uint8_t command, size_t reply_size, struct bytes stream)
     uint8_t request[DALY_FRAME];
     if (!print_refused(daly_request(command, false, 0, request)))
         return;
-    struct daly_opened opened = daly_reader_new(request, DALY_FRAME, reply_size);
-    struct daly_said said = daly_reader_push(&opened.reader, stream.at, stream.length);
-    struct daly_counts counts = opened.reader.counts;
-    struct daly_completed completed = daly_reader_is_complete(opened.reader);
-    if (print_refused(opened.number) && print_refused(completed.number))
+    struct daly_reader reader;
+    uint8_t opened = daly_reader_new(&reader, request, DALY_FRAME, reply_size);
+    struct daly_said said = daly_reader_push(&reader, stream.at, stream.length);
+    struct daly_completed completed = daly_reader_is_complete(&reader);
+    if (print_refused(opened) && print_refused(completed.number))
         printf(" complete %d status %u cleared %" PRIu32 " discarded %" PRIu32 " taken %" PRIu32, completed.complete, said.status,
-               counts.cleared, counts.discarded, counts.taken);
+               reader.counts.cleared, reader.counts.discarded, reader.counts.taken);
 }
 
 /* As many zeros, then the wanted frame. */

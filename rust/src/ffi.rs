@@ -62,11 +62,11 @@ pub fn check(reply: &[u8], command: u8) -> Result<(), Error> {
 
 /// The request of one of the thirteen commands, of which the library refuses none.
 pub fn request(command: u8, enable: bool, soc_percent: f32) -> Vec<u8> {
-    let mut out = vec![0; FRAME];
+    let mut out = [0; FRAME];
     // SAFETY: `out` is 13 bytes, alive and lent to nobody else.
     let number = unsafe { daly_request(command, enable, soc_percent, out.as_mut_ptr()) };
     debug_assert_eq!(number, 0, "no request of command {command:02X}");
-    out
+    out.to_vec()
 }
 
 fn record<T>(decode: Decode<T>, reply: &[u8], number: fn(&T) -> u8) -> Result<T, Error> {
@@ -96,17 +96,13 @@ pub fn status(reply: &[u8]) -> Result<Status, Error> {
 }
 
 /// Lends `room` places and keeps those that were filled.
-fn list<P: Clone + Default>(
-    decode: DecodeList<P>,
-    reply: &[u8],
-    n: u8,
-    room: usize,
-) -> Result<Vec<P>, Error> {
-    let mut out = vec![P::default(); room];
+fn list<P>(decode: DecodeList<P>, reply: &[u8], n: u8, room: usize) -> Result<Vec<P>, Error> {
+    let mut out = Vec::with_capacity(room);
     // SAFETY: as in check; `out` has `room` places, alive and lent to nobody else.
     let told = unsafe { decode(reply.as_ptr(), reply.len(), n, out.as_mut_ptr(), room) };
     Error::check(told.number)?;
-    out.truncate(told.count);
+    // SAFETY: so many values stand at the front, at most `room`.
+    unsafe { out.set_len(told.count) };
     Ok(out)
 }
 

@@ -8,8 +8,7 @@ use mir.Syntax.{Ty}
 use prog.Memory.{size, fieldOf}
 use Rattle.reader.proofs.Counts.Laws as Counts
 use Rattle.reader.proofs.FrameReader.Laws as FrameReader
-use Rattle.reader.proofs.Opened.Laws as Opened
-use Rattle.reader.proofs.Said.Laws as Said
+use Rattle.reader.proofs.Turn.Laws as Turn
 use Rattle.reader.proofs.Missing.Laws as Missing
 use Rattle.reader.proofs.Completed.Laws as Completed
 use Rattle.daly.proofs.lists.ListTold.Laws as ListTold
@@ -41,10 +40,7 @@ counts = refl
 reader : layout FrameReader.mir ≡ 1152 ∷ 0 ∷ 40 ∷ []
 reader = refl
 
-opened : layout Opened.mir ≡ 1160 ∷ 0 ∷ 8 ∷ []
-opened = refl
-
-said : layout Said.mir ≡ 16 ∷ 0 ∷ 8 ∷ []
+said : layout Turn.mir ≡ 16 ∷ 0 ∷ 1 ∷ 8 ∷ []
 said = refl
 
 missing : layout Missing.mir ≡ 16 ∷ 0 ∷ 8 ∷ []

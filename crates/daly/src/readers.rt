@@ -1,52 +1,72 @@
-// The reader, for C: it is pushed into where the caller has it, and asked by value. A `&mut FrameReader` is a pointer.
+// The reader, for C, where the caller has it: a `&FrameReader` and a `&mut FrameReader` are pointers, and no call copies the frames but the one that copies them out.
 ghost use mathlib.Core.Path.{_≡_};
 ghost use Rattle.reader.specs.View.{view};
-ghost use Rattle.reader.specs.Lent.{AnsweredLent};
-ghost use Rattle.reader.specs.Told.{opened, missingTold, completeTold};
+ghost use Rattle.reader.specs.Lent.{TurnedLent, OpenedLent, seen};
+ghost use Rattle.reader.specs.Told.{missingTold, completeTold};
 ghost use Rattle.daly.specs.Lists.{TellsCollected};
 use crate::lists::ListTold;
 use crate::lists::told;
 use reader::Completed;
+use reader::Counts;
 use reader::FrameReader;
 use reader::Missing;
-use reader::Opened;
-use reader::Said;
-use reader::push_into;
+use reader::Turn;
+use reader::completed_of;
+use reader::copy_from;
+use reader::missing_of;
+use reader::open_counts;
+use reader::turn_into;
 
+// A new reader, into the caller's: its numbers, and an array of zeros. It answers 0, 7 or 6.
 #[no_mangle]
-pub extern "C" fn daly_reader_new(request: &[u8], reply_size: usize) -> Opened
-    ensures { λ r. ⌜ r ≡ opened (now (request .entry)) «reply_size» ⌝ }
+pub extern "C" fn daly_reader_new(reader: &mut FrameReader, request: &[u8], reply_size: usize) -> u8
+    ensures { λ r. ⌜ OpenedLent (now (request .entry)) «reply_size» r (now (reader .exit)) ⌝ }
 {
-    FrameReader::new(request, reply_size)
+    let o = open_counts(request, reply_size);
+    reader.counts = o.counts;
+    reader.frames = [0u8; 1105];
+    o.number
 }
 
-// A push on a reader that the caller lends, in place: its frames are lent on, and no byte of them is copied that is not collected or held.
+// A push on a reader that the caller lends, in place: its frames are lent on, and no byte of them is copied that is not collected or held. It tells what is then missing, so that a turn of a loop has one call. The numbers that no push changes are not stored again.
 #[no_mangle]
-pub extern "C" fn daly_reader_push(reader: &mut FrameReader, chunk: &[u8]) -> Said
-    ensures { λ r. ⌜ AnsweredLent (now (reader .entry)) (now (chunk .entry)) r (now (reader .exit)) ⌝ }
+pub extern "C" fn daly_reader_push(reader: &mut FrameReader, chunk: &[u8]) -> Turn
+    ensures { λ r. ⌜ TurnedLent (now (reader .entry)) (now (chunk .entry)) r (now (reader .exit)) ⌝ }
 {
-    let t = push_into(&mut reader.frames, reader.counts, chunk);
-    reader.counts = t.counts;
-    t.said
+    let t = turn_into(&mut reader.frames, reader.counts, chunk);
+    reader.counts.mark = t.counts.mark;
+    reader.counts.taken = t.counts.taken;
+    reader.counts.discarded = t.counts.discarded;
+    reader.counts.cleared = t.counts.cleared;
+    reader.counts.collected = t.counts.collected;
+    reader.counts.held = t.counts.held;
+    t.turn
 }
 
 #[no_mangle]
-pub extern "C" fn daly_reader_missing(reader: FrameReader) -> Missing
-    ensures { λ r. ⌜ r ≡ missingTold (view (reader .counts) (reader .frames)) ⌝ }
+pub extern "C" fn daly_reader_missing(reader: &FrameReader) -> Missing
+    ensures { λ r. ⌜ r ≡ missingTold (seen (now (reader .entry))) ⌝ }
 {
-    reader.missing()
+    missing_of(&reader.frames, reader.counts)
 }
 
 #[no_mangle]
-pub extern "C" fn daly_reader_is_complete(reader: FrameReader) -> Completed
-    ensures { λ r. ⌜ r ≡ completeTold (view (reader .counts) (reader .frames)) ⌝ }
+pub extern "C" fn daly_reader_is_complete(reader: &FrameReader) -> Completed
+    ensures { λ r. ⌜ r ≡ completeTold (seen (now (reader .entry))) ⌝ }
 {
-    reader.is_complete()
+    completed_of(&reader.frames, reader.counts)
+}
+
+// What copying out tells C, of frames lent and numbers by value.
+fn told_from(frames: &[u8; 1105], c: Counts, out: &mut [u8]) -> ListTold
+    ensures { λ r. ⌜ TellsCollected (view c (now (frames .entry))) (now (out .entry)) r (now (out .exit)) ⌝ }
+{
+    told(copy_from(frames, c, out))
 }
 
 #[no_mangle]
-pub extern "C" fn daly_reader_copy_out(reader: FrameReader, out: &mut [u8]) -> ListTold
-    ensures { λ r. ⌜ TellsCollected (view (reader .counts) (reader .frames)) (now (out .entry)) r (now (out .exit)) ⌝ }
+pub extern "C" fn daly_reader_copy_out(reader: &FrameReader, out: &mut [u8]) -> ListTold
+    ensures { λ r. ⌜ TellsCollected (seen (now (reader .entry))) (now (out .entry)) r (now (out .exit)) ⌝ }
 {
-    told(reader.copy_out(out))
+    told_from(&reader.frames, reader.counts, out)
 }

@@ -4,11 +4,14 @@ use mathlib.Core.List.{List}
 use Prim.Native.Nat.{ℕ}
 use Rattle.wire.proofs.Decides.{both}
 use Rattle.reader.specs.View.{view}
-use Rattle.reader.specs.Lent.{AnsweredLent, PushesAgree}
+use Rattle.reader.specs.Lent.{AnsweredLent, TurnedLent, PushesAgree}
 use Rattle.reader.specs.declared.FrameReader.{FrameReader}
 use Rattle.reader.specs.declared.Said.{Said}
+use Rattle.reader.specs.declared.Turn.{Turn}
 use Rattle.reader.specs.declared.Told.{Told}
+use Rattle.reader.specs.declared.Turned.{Turned}
 use Rattle.reader.proofs.Promise.{shown, told-once, answered-refused}
+use Rattle.reader.proofs.Turning.{turned-into-once}
 
 -- what a push says, and the reader's numbers
 abbrev toldOf : Said → FrameReader → Told
@@ -39,3 +42,18 @@ pub answered-once : LentDecides
 answered-once before chunk x y a b p q =
     let e = told-once {f = before .frames} {c = before .counts} {s = chunk} {x = toldOf x a} {y = toldOf y b} {g = a .frames} {h = b .frames} p q in
     λ i. both (e i .0 .said) (e i .1)
+
+-- and so is the one that tells what is then missing
+abbrev turnedOf : Turn → FrameReader → Turned
+turnedOf x a = record { turn = x; counts = a .counts }
+
+abbrev pub TurnDecides : Type 0
+TurnDecides =
+    (before : FrameReader) (chunk : List ℕ) (x y : Turn) (a b : FrameReader)
+    → TurnedLent before chunk x a → TurnedLent before chunk y b
+    → both x (shown (x .status) (a .counts) (a .frames)) ≡ both y (shown (y .status) (b .counts) (b .frames))
+
+pub turned-once : TurnDecides
+turned-once before chunk x y a b p q =
+    let e = turned-into-once {f = before .frames} {c = before .counts} {s = chunk} {x = turnedOf x a} {y = turnedOf y b} {g = a .frames} {h = b .frames} p q in
+    λ i. both (e i .0 .turn) (e i .1)

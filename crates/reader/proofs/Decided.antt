@@ -4,7 +4,13 @@ use denote.Ref.{now}
 use Rattle.wire.proofs.Decides.{Decides, same, both}
 use Rattle.list.proofs.Decoding.{pinned}
 use Rattle.reader.proofs.Promise.{told, shown, told-once, pushed-once}
+use Rattle.reader.proofs.Turning.{turned-into-once}
 use Rattle.reader.proofs.push_into.Reads as push-into
+use Rattle.reader.proofs.turn_into.Reads as turn-into
+use Rattle.reader.proofs.missing_of.Reads as missing-of
+use Rattle.reader.proofs.completed_of.Reads as completed-of
+use Rattle.reader.proofs.copy_from.Reads as copy-from
+use Rattle.reader.proofs.open_counts.Reads as open-counts
 use Rattle.reader.proofs.FrameReader.new.Reads as FrameReader-new
 use Rattle.reader.proofs.FrameReader.push.Reads as FrameReader-push
 use Rattle.reader.proofs.FrameReader.missing.Reads as FrameReader-missing
@@ -13,6 +19,21 @@ use Rattle.reader.proofs.FrameReader.copy_out.Reads as FrameReader-copy
 
 push-into-decides : Decides push-into.Post (λ κs r s. both r (shown (r .said .status) (r .counts) (now (s .0))))
 push-into-decides κs a x y s t = told-once
+
+turn-into-decides : Decides turn-into.Post (λ κs r s. both r (shown (r .turn .status) (r .counts) (now (s .0))))
+turn-into-decides κs a x y s t = turned-into-once
+
+missing-of-decides : Decides missing-of.Post (λ κs r s. r)
+missing-of-decides κs a x y s t = same
+
+completed-of-decides : Decides completed-of.Post (λ κs r s. r)
+completed-of-decides κs a x y s t = same
+
+copy-from-decides : Decides copy-from.Post (λ κs r s. both r (now (s .1 .1 .0)))
+copy-from-decides κs a x y s t = pinned
+
+open-counts-decides : Decides open-counts.Post (λ κs r s. r)
+open-counts-decides κs a x y s t = same
 
 FrameReader-new-decides : Decides FrameReader-new.Post (λ κs r s. r)
 FrameReader-new-decides κs a x y s t = same

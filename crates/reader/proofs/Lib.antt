@@ -7,6 +7,7 @@ pub mod Refusing
 pub mod Answer
 pub mod Asking
 pub mod Promise
+pub mod Turning
 pub mod Agreeing
 pub mod Auditor
 pub mod Examples

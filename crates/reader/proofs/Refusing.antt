@@ -1,12 +1,12 @@
 -- The refusal of a bad state, from what the code tests. Assumes nothing.
 use mathlib.Core.Path.{_≡_, refl, sym, ap, _∙_}
-use mathlib.Core.Bool.{Bool, true, false, not, _&&_, _||_}
+use mathlib.Core.Bool.{Bool, true, false, not, _&&_, _||_, true≢false}
 use mathlib.Core.List.{List}
 use Prim.Native.Nat.{ℕ, zero, suc, _*_, _≤_, _<_}
 use native.Mathlib.Omega.{arith}
 use lib.ListN.{getD}
 use lib.Dec.{ltb, leb, eqb}
-use borrow.Author.Tests.{ltb-false, leb-false, lt-ltb, le-ltb, le-leb, lt-leb, eqb-true, eq-eqb, ne-eqb, not-false}
+use borrow.Author.Tests.{ltb-true, ltb-false, leb-false, lt-ltb, le-ltb, le-leb, lt-leb, eqb-true, eq-eqb, ne-eqb, not-false}
 use Rattle.frame.specs.declared.Refusal.the-variants.{BadState}
 use Rattle.frame.specs.declared.Check.the-variants.{Sound}
 use Rattle.frame.specs.Refusals.{checkNumber, refuse}
@@ -60,6 +60,22 @@ sane c f e =
         go true r = absurd (omega (arith, ltb-false 0 (c .held) (and-false _ _ q r)))
         go false r = leb-false _ _ r
 
+-- and what its mark says
+pub few-unmarked : (c : Counts) (f : List ℕ) → bad (view c f) ≡ false → c .mark ≡ false → c .discarded ≤ 512
+unfolding refused
+few-unmarked c f e m =
+    let first : Bool =
+    ltb 12 (c .held)
+    || ltb 85 (c .wanted)
+    || ltb (c .wanted) (c .collected)
+    || (leb (c .wanted) (c .collected) && ltb 0 (c .held))
+    || (ltb 0 (c .held) && not (eqb (getD f (13 * c .collected) 0) 0xA5)) in
+    let x = or-false first (ltb 512 (c .discarded) && not (c .mark)) (sym (bad-refused c f) ∙ e) in go (ltb 512 (c .discarded)) refl (x .1)
+  where
+    go : (b : Bool) → ltb 512 (c .discarded) ≡ b → ltb 512 (c .discarded) && not (c .mark) ≡ false → c .discarded ≤ 512
+    go true q x = absurd (true≢false (rw (q, m) at x))
+    go false q x = ltb-false 512 (c .discarded) q
+
 -- the tests in the code's order
 module _ (c : Counts) (f : List ℕ) where
   pub too-full : 12 < c .held → 8 ≡ stateNumber (view c f)
@@ -101,6 +117,21 @@ module _ (c : Counts) (f : List ℕ) where
 
             pub begun : getD f (13 * c .collected) 0 ≡ 0xA5 → bad (view c f) ≡ ltb 512 (c .discarded) && not (c .mark)
             begun n = bad-refused c f ∙ start ∙ rw (some?, lt-leb (c .wanted) (c .collected) l, eq-eqb (getD f (13 * c .collected) 0) 0xA5 n)
+
+  -- whatever is held, and wherever the collected frames end
+  pub any-many : 85 < c .wanted → 8 ≡ stateNumber (view c f)
+  any-many w = go (ltb 12 (c .held)) refl
+    where
+      go : (b : Bool) → ltb 12 (c .held) ≡ b → 8 ≡ stateNumber (view c f)
+      go true e = too-full (ltb-true 12 (c .held) e)
+      go false e = too-many (ltb-false 12 (c .held) e) w
+
+  pub past : c .held ≤ 12 → c .wanted ≤ 85 → (c .held ≡ 0 → ⊥) → c .wanted ≤ c .collected → 8 ≡ stateNumber (view c f)
+  past h w z l = go (ltb (c .wanted) (c .collected)) refl
+    where
+      go : (b : Bool) → ltb (c .wanted) (c .collected) ≡ b → 8 ≡ stateNumber (view c f)
+      go true e = too-far h w (ltb-true (c .wanted) (c .collected) e)
+      go false e = too-late h w (ltb-false (c .wanted) (c .collected) e) z l
 
   pub is-refused : (r : ℕ) → r ≡ stateNumber (view c f) → (r ≡ 0 → ⊥) → bad (view c f) ≡ true
   is-refused r e n = go (bad (view c f)) e

@@ -8,6 +8,7 @@ use Rattle.rules.specs.Rules.{Config}
 use Rattle.rules.specs.Reader.{Reader, newCheck, newConfig, missing, completeness, stateNumber}
 use Rattle.reader.specs.declared.Counts.{Counts}
 use Rattle.reader.specs.declared.FrameReader.{FrameReader}
+use Rattle.reader.specs.declared.Opening.{Opening}
 use Rattle.reader.specs.declared.Opened.{Opened}
 use Rattle.reader.specs.declared.Missing.{Missing}
 use Rattle.reader.specs.declared.Completed.{Completed}
@@ -19,6 +20,12 @@ freshCounts command wanted =
 
 abbrev pub freshReader : ℕ → ℕ → FrameReader
 freshReader command wanted = record { counts = freshCounts command wanted; frames = replicate 1105 0 }
+
+-- what a new reader begins with: 0, 7 or 6, and its numbers
+abbrev pub openingOf : List ℕ → ℕ → Opening
+openingOf request size =
+    let c : Config = newConfig (newCheck request size) request size in
+    record { number = checkNumber (newCheck request size); counts = freshCounts (c .command) (c .wanted) }
 
 -- "A refused new reader is all zero and wants 0 frames"
 abbrev pub opened : List ℕ → ℕ → Opened

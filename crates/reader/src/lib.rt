@@ -1,10 +1,12 @@
 // The reader of a reply's frames: the rules of the crate `rules`, on bytes that come in any chunks.
 ghost use mathlib.Core.Path.{_≡_};
+ghost use Prim.Native.Nat.{_-_, _≤_, _<_};
 ghost use lib.ListN.{length};
 ghost use Rattle.rules.specs.Reader.{copyCheck, joined};
 ghost use Rattle.list.specs.Listed.{Decodes};
 ghost use Rattle.reader.specs.View.{view, Answered};
-ghost use Rattle.reader.specs.Told.{opened, freshReader, missingTold, completeTold};
+ghost use Rattle.reader.specs.Told.{opened, openingOf, freshCounts, missingTold, completeTold};
+ghost use Rattle.reader.specs.Lent.{TurnedInto};
 use frame::Refusal;
 use list::Listed;
 use moves::advance;
@@ -34,6 +36,13 @@ pub struct FrameReader {
     pub frames: [u8; 1105],
 }
 
+// What a new reader begins with: 0, 6 or 7, and its numbers.
+#[repr(C)]
+pub struct Opening {
+    pub number: u8,
+    pub counts: Counts,
+}
+
 // A new reader, and 0, 6 or 7.
 #[repr(C)]
 pub struct Opened {
@@ -52,6 +61,21 @@ pub struct Said {
 #[repr(C)]
 pub struct Told {
     pub said: Said,
+    pub counts: Counts,
+}
+
+// What a push says to one who reads the line: that, and how many bytes the next frame then still needs.
+#[repr(C)]
+pub struct Turn {
+    pub status: u8,
+    pub missing: u8,
+    pub took: usize,
+}
+
+// What it then answers beside the frames.
+#[repr(C)]
+pub struct Turned {
+    pub turn: Turn,
     pub counts: Counts,
 }
 
@@ -115,22 +139,130 @@ pub fn push_into(frames: &mut [u8; 1105], c: Counts, chunk: &[u8]) -> Told
     }
 }
 
-// A reader that has taken nothing.
-fn fresh(command: u8, wanted: usize) -> FrameReader
-    ensures { λ r. ⌜ r ≡ freshReader command wanted ⌝ }
+// How many bytes the next frame needs after a push: a reader that was not refused is not in a bad state.
+fn missing_after(status: u8, next: Counts) -> u8
+    requires { ⌜ ((status ≡ 8 → ⊥) → next .held ≤ 12) ⌝ }
+    ensures { λ r. ⌜ (status ≡ 8 → r ≡ 0) × ((status ≡ 8 → ⊥) → next .wanted ≤ next .collected → r ≡ 0) × ((status ≡ 8 → ⊥) → next .collected < next .wanted → r ≡ 13 - next .held) ⌝ }
 {
-    FrameReader {
-        counts: Counts {
-            command: command,
-            mark: false,
-            taken: 0,
-            discarded: 0,
-            cleared: 0,
-            wanted: wanted,
-            collected: 0,
-            held: 0,
+    if status == 8 {
+        return 0;
+    }
+    if next.wanted <= next.collected {
+        return 0;
+    }
+    (13 - next.held) as u8
+}
+
+// The push that also tells what is then missing, so that a turn of a loop has one call.
+pub fn turn_into(frames: &mut [u8; 1105], c: Counts, chunk: &[u8]) -> Turned
+    ensures { λ r. ⌜ TurnedInto (now (frames .entry)) c (now (chunk .entry)) (r .turn) (r .counts) (now (frames .exit)) ⌝ }
+{
+    let t = push_into(frames, c, chunk);
+    let said = t.said;
+    let next = t.counts;
+    Turned {
+        turn: Turn {
+            status: said.status,
+            missing: missing_after(said.status, next),
+            took: said.took,
         },
-        frames: [0u8; 1105],
+        counts: next,
+    }
+}
+
+// How many bytes the next frame still needs, of a reader's frames, lent, and its numbers by value.
+pub fn missing_of(frames: &[u8; 1105], c: Counts) -> Missing
+    ensures { λ r. ⌜ r ≡ missingTold (view c (now (frames .entry))) ⌝ }
+{
+    let number = state::state_number(frames, c);
+    if number != 0 {
+        return Missing {
+            number: number,
+            missing: 0,
+        };
+    }
+    if c.wanted <= c.collected {
+        return Missing {
+            number: 0,
+            missing: 0,
+        };
+    }
+    Missing {
+        number: 0,
+        missing: 13 - c.held,
+    }
+}
+
+// Whether all wanted frames are collected, likewise.
+pub fn completed_of(frames: &[u8; 1105], c: Counts) -> Completed
+    ensures { λ r. ⌜ r ≡ completeTold (view c (now (frames .entry))) ⌝ }
+{
+    let number = state::state_number(frames, c);
+    if number != 0 {
+        return Completed {
+            number: number,
+            complete: false,
+        };
+    }
+    Completed {
+        number: 0,
+        complete: c.wanted <= c.collected,
+    }
+}
+
+// The collected frames, one after the other, into `out`, likewise.
+pub fn copy_from(frames: &[u8; 1105], c: Counts, out: &mut [u8]) -> Listed
+    ensures { λ r. ⌜ Decodes (copyCheck (view c (now (frames .entry))) (length (now (out .entry)))) (joined (view c (now (frames .entry)) .collected)) (now (out .entry)) r (now (out .exit)) ⌝ }
+{
+    if state::state_number(frames, c) != 0 {
+        return Listed::NotStored(Refusal::BadState);
+    }
+    let n = 13 * c.collected;
+    if out.len() < n {
+        return Listed::NotStored(Refusal::NoRoom);
+    }
+    scan::copy(out, 0, frames, 0, n);
+    Listed::Stored(n)
+}
+
+// The numbers of a reader that has taken nothing.
+fn fresh_counts(command: u8, wanted: usize) -> Counts
+    ensures { λ r. ⌜ r ≡ freshCounts command wanted ⌝ }
+{
+    Counts {
+        command: command,
+        mark: false,
+        taken: 0,
+        discarded: 0,
+        cleared: 0,
+        wanted: wanted,
+        collected: 0,
+        held: 0,
+    }
+}
+
+// What a new reader for the reply to `request`, of `reply_size` bytes, begins with.
+pub fn open_counts(request: &[u8], reply_size: usize) -> Opening
+    ensures { λ r. ⌜ r ≡ openingOf (now (request .entry)) «reply_size» ⌝ }
+{
+    if request.len() < 3 {
+        let zero = fresh_counts(0, 0);
+        return Opening {
+            number: Refusal::RequestTooShort.number(),
+            counts: zero,
+        };
+    }
+    if 1105 < reply_size {
+        let zero = fresh_counts(0, 0);
+        return Opening {
+            number: Refusal::ReplyTooLong.number(),
+            counts: zero,
+        };
+    }
+    let counts = fresh_counts(request[2], (reply_size + 12) / 13);
+    Opening {
+        number: 0,
+        counts: counts,
     }
 }
 
@@ -139,23 +271,14 @@ impl FrameReader {
     pub fn new(request: &[u8], reply_size: usize) -> Opened
         ensures { λ r. ⌜ r ≡ opened (now (request .entry)) «reply_size» ⌝ }
     {
-        if request.len() < 3 {
-            let zero = fresh(0, 0);
-            return Opened {
-                number: Refusal::RequestTooShort.number(),
-                reader: zero,
-            };
-        }
-        if 1105 < reply_size {
-            let zero = fresh(0, 0);
-            return Opened {
-                number: Refusal::ReplyTooLong.number(),
-                reader: zero,
-            };
-        }
-        let reader = fresh(request[2], (reply_size + 12) / 13);
+        let o = open_counts(request, reply_size);
+        let counts = o.counts;
+        let reader = FrameReader {
+            counts: counts,
+            frames: [0u8; 1105],
+        };
         Opened {
-            number: 0,
+            number: o.number,
             reader: reader,
         }
     }
@@ -180,23 +303,7 @@ impl FrameReader {
         ensures { λ r. ⌜ r ≡ missingTold (view (self .counts) (self .frames)) ⌝ }
     {
         let c = self.counts;
-        let number = state::state_number(&self.frames, c);
-        if number != 0 {
-            return Missing {
-                number: number,
-                missing: 0,
-            };
-        }
-        if c.wanted <= c.collected {
-            return Missing {
-                number: 0,
-                missing: 0,
-            };
-        }
-        Missing {
-            number: 0,
-            missing: 13 - c.held,
-        }
+        missing_of(&self.frames, c)
     }
 
     // Whether all wanted frames are collected.
@@ -204,17 +311,7 @@ impl FrameReader {
         ensures { λ r. ⌜ r ≡ completeTold (view (self .counts) (self .frames)) ⌝ }
     {
         let c = self.counts;
-        let number = state::state_number(&self.frames, c);
-        if number != 0 {
-            return Completed {
-                number: number,
-                complete: false,
-            };
-        }
-        Completed {
-            number: 0,
-            complete: c.wanted <= c.collected,
-        }
+        completed_of(&self.frames, c)
     }
 
     // The collected frames, one after the other, into `out`.
@@ -222,14 +319,6 @@ impl FrameReader {
         ensures { λ r. ⌜ Decodes (copyCheck (view (self .counts) (self .frames)) (length (now (out .entry)))) (joined (view (self .counts) (self .frames) .collected)) (now (out .entry)) r (now (out .exit)) ⌝ }
     {
         let c = self.counts;
-        if state::state_number(&self.frames, c) != 0 {
-            return Listed::NotStored(Refusal::BadState);
-        }
-        let n = 13 * c.collected;
-        if out.len() < n {
-            return Listed::NotStored(Refusal::NoRoom);
-        }
-        scan::copy(out, 0, &self.frames, 0, n);
-        Listed::Stored(n)
+        copy_from(&self.frames, c, out)
     }
 }

@@ -1,7 +1,7 @@
 // Refusal 8, the mark and the status: what a push tests before it moves and books afterwards.
 ghost use mathlib.Core.Path.{_≡_};
-ghost use mathlib.Core.Bool.{not, _&&_, _||_};
-ghost use Prim.Native.Nat.{_+_};
+ghost use mathlib.Core.Bool.{false, not, _&&_, _||_};
+ghost use Prim.Native.Nat.{_+_, _≤_};
 ghost use lib.Dec.{ltb};
 ghost use Rattle.frame.specs.declared.Refusal.the-variants.{BadState};
 ghost use Rattle.frame.specs.declared.Check.the-variants.{Sound};
@@ -24,21 +24,21 @@ fn unmarked(discarded: u32, mark: bool) -> u8
     8
 }
 
-// 8 for a reader that no push can have made, else 0.
+// 8 for a reader that no push can have made, else 0. Whether bytes are held is asked early: then fewer tests are left.
 pub(crate) fn state_number(frames: &[u8; 1105], c: Counts) -> u8
     ensures { λ r. ⌜ r ≡ stateNumber (view c (now (frames .entry))) ⌝ }
 {
-    if 12 < c.held {
-        return 8;
-    }
     if 85 < c.wanted {
         return 8;
     }
-    if c.wanted < c.collected {
-        return 8;
-    }
     if c.held == 0 {
+        if c.wanted < c.collected {
+            return 8;
+        }
         return unmarked(c.discarded, c.mark);
+    }
+    if 12 < c.held {
+        return 8;
     }
     if c.wanted <= c.collected {
         return 8;
@@ -52,15 +52,13 @@ pub(crate) fn state_number(frames: &[u8; 1105], c: Counts) -> u8
 
 // The mark after a push that discarded `lost` bytes; no sum here can wrap.
 pub(crate) fn passed(mark: bool, before: u32, lost: usize) -> bool
+    requires { ⌜ (mark ≡ false → before ≤ 512) ⌝ }
     ensures { λ r. ⌜ r ≡ (mark || ltb 512 (before + lost)) ⌝ }
 {
     if mark {
         return true;
     }
-    if 512 < lost {
-        return true;
-    }
-    512 < before as usize + lost
+    512 - (before as usize) < lost
 }
 
 pub(crate) fn status_of(mark: bool) -> u8

@@ -6,8 +6,13 @@ use crate::port::Port;
 use crate::told::{CompletedTold, Left, ListTold, MissingTold};
 
 extern "C" {
-    fn daly_reader_new(request: *const u8, len: usize, reply_size: usize) -> Opened;
-    fn daly_reader_push(reader: *mut Reader, chunk: *const u8, len: usize) -> Said;
+    fn daly_reader_new(
+        reader: *mut Reader,
+        request: *const u8,
+        len: usize,
+        reply_size: usize,
+    ) -> u8;
+    fn daly_reader_push(reader: *mut Reader, chunk: *const u8, len: usize) -> Turn;
     fn daly_push_by_value(reader: Reader, chunk: *const u8, len: usize) -> Pushed;
     fn daly_push_into(frames: *mut u8, counts: Counts, chunk: *const u8, len: usize) -> PushedInto;
     fn daly_push_lent(reader: *mut Reader, chunk: *const u8, len: usize) -> Said;
@@ -18,9 +23,9 @@ extern "C" {
         len: usize,
         size: usize,
     ) -> PushedInto;
-    fn daly_reader_missing(reader: Reader) -> MissingTold;
-    fn daly_reader_is_complete(reader: Reader) -> CompletedTold;
-    fn daly_reader_copy_out(reader: Reader, out: *mut u8, room: usize) -> ListTold;
+    fn daly_reader_missing(reader: *const Reader) -> MissingTold;
+    fn daly_reader_is_complete(reader: *const Reader) -> CompletedTold;
+    fn daly_reader_copy_out(reader: *const Reader, out: *mut u8, room: usize) -> ListTold;
 }
 
 /// The forms of the push.
@@ -52,6 +57,26 @@ impl Way {
 
 /// A push on a lent reader.
 type AskLent = unsafe extern "C" fn(*mut Reader, *const u8, usize) -> Said;
+
+/// The push in place also tells what is then missing: just what the ask then says.
+unsafe extern "C" fn push_in_place(reader: *mut Reader, chunk: *const u8, len: usize) -> Said {
+    // SAFETY: as the caller has it.
+    let (turn, asked) = unsafe {
+        (
+            daly_reader_push(reader, chunk, len),
+            daly_reader_missing(reader),
+        )
+    };
+    assert_eq!(
+        usize::from(turn.missing),
+        asked.missing,
+        "a push and the ask"
+    );
+    Said {
+        status: turn.status,
+        took: turn.took,
+    }
+}
 
 /// A reader with a fence on either side.
 #[repr(C)]
@@ -107,8 +132,11 @@ fn frames_lent(reader: &Reader, ask: impl FnOnce(*mut u8) -> PushedInto) -> Afte
 
 impl Port {
     pub fn open(&mut self, request: &[u8], size: usize) -> Opened {
-        // SAFETY: pointer and length are those of a live slice; of an empty one the pointer is not null.
-        self.answered(unsafe { daly_reader_new(request.as_ptr(), request.len(), size) })
+        let mut reader = Reader::spoiled();
+        // SAFETY: pointer and length are those of a live slice; of an empty one the pointer is not null. The
+        // reader is alive and lent to nobody else.
+        let number = unsafe { daly_reader_new(&mut reader, request.as_ptr(), request.len(), size) };
+        self.answered(Opened { number, reader })
     }
 
     pub fn push(&mut self, way: Way, reader: &Reader, chunk: &[u8]) -> After {
@@ -134,19 +162,19 @@ impl Port {
                 unsafe { daly_push_in_chunks(frames, reader.counts, bytes, length, size) }
             }),
             Way::Lent => lent(reader, daly_push_lent, chunk),
-            Way::InPlace => lent(reader, daly_reader_push, chunk),
+            Way::InPlace => lent(reader, push_in_place, chunk),
         };
         self.answered(after)
     }
 
     pub fn missing(&mut self, reader: &Reader) -> MissingTold {
-        // SAFETY: nothing is lent.
-        self.answered(unsafe { daly_reader_missing(*reader) })
+        // SAFETY: the reader is alive and nobody writes to it.
+        self.answered(unsafe { daly_reader_missing(reader) })
     }
 
     pub fn completed(&mut self, reader: &Reader) -> CompletedTold {
-        // SAFETY: nothing is lent.
-        self.answered(unsafe { daly_reader_is_complete(*reader) })
+        // SAFETY: as in missing.
+        self.answered(unsafe { daly_reader_is_complete(reader) })
     }
 
     /// Lends `room` places of the buffer, from `start` on.
@@ -160,7 +188,7 @@ impl Port {
         assert!(start + room <= buffer.len(), "no such places to lend");
         let out = buffer.as_mut_ptr().wrapping_add(start);
         // SAFETY: `out` has `room` places, alive and lent to nobody else.
-        let told = unsafe { daly_reader_copy_out(*reader, out, room) };
+        let told = unsafe { daly_reader_copy_out(reader, out, room) };
         self.answered(Left { told, buffer })
     }
 }

@@ -27,10 +27,36 @@ pub struct Reader {
     pub frames: [u8; LONGEST],
 }
 
+impl Reader {
+    /// A place to make a reader in, where no byte is as that reader has it.
+    pub fn spoiled() -> Self {
+        let counts = Counts {
+            command: 0x5A,
+            mark: Flag(1),
+            taken: !0,
+            discarded: !0,
+            cleared: !0,
+            wanted: !0,
+            collected: !0,
+            held: !0,
+        };
+        let frames = [0x5A; LONGEST];
+        Self { counts, frames }
+    }
+}
+
 #[derive(Clone, Copy, Debug, PartialEq)]
 #[repr(C)]
 pub struct Said {
     pub status: u8,
+    pub took: usize,
+}
+
+/// What the push in place says.
+#[repr(C)]
+pub struct Turn {
+    pub status: u8,
+    pub missing: u8,
     pub took: usize,
 }
 
@@ -48,7 +74,7 @@ pub struct PushedInto {
     pub counts: Counts,
 }
 
-#[repr(C)]
+/// What a new reader came to, in the place that was lent.
 pub struct Opened {
     pub number: u8,
     pub reader: Reader,

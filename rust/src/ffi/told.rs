@@ -1,6 +1,7 @@
 //! The answers, as the library lays them out. A flag is taken as a byte; it is 0 or 1.
 
 use super::FRAMES;
+use std::mem::MaybeUninit;
 
 #[repr(C)]
 pub struct Soc {
@@ -109,23 +110,19 @@ pub struct Counts {
     pub held: usize,
 }
 
-/// The collected frames stand at the front of `frames`, the held bytes behind them.
+/// The collected frames stand at the front of `frames`, the held bytes behind them. The library fills it before it
+/// reads it.
 #[derive(Clone, Copy)]
 #[repr(C)]
 pub struct Reader {
     pub counts: Counts,
-    pub frames: [u8; FRAMES],
-}
-
-#[repr(C)]
-pub struct Opened {
-    pub number: u8,
-    pub reader: Reader,
+    pub frames: MaybeUninit<[u8; FRAMES]>,
 }
 
 #[repr(C)]
 pub struct Said {
     pub status: u8,
+    pub missing: u8,
     pub took: usize,
 }
 
@@ -133,10 +130,4 @@ pub struct Said {
 pub struct Missing {
     pub number: u8,
     pub missing: usize,
-}
-
-#[repr(C)]
-pub struct Completed {
-    pub number: u8,
-    pub complete: u8,
 }

@@ -19,6 +19,8 @@ pub struct FrameReader {
     reader: ffi::Reader,
     /// What `new` could not answer.
     refusal: Option<Error>,
+    /// What the library answered last: 0 says that all frames are there. A refused reader lacks a frame.
+    missing: usize,
 }
 
 impl FrameReader {
@@ -28,11 +30,16 @@ impl FrameReader {
     /// than 1,105 with [`Error::ReplyTooLong`]: such a reader answers the error to every push, is never
     /// complete, lacks a frame and has no bytes.
     pub fn new(request: &[u8], reply_size: usize) -> Self {
-        let (reader, opened) = ffi::Reader::new(request, reply_size);
-        Self {
-            reader,
-            refusal: opened.err(),
+        let mut this = Self {
+            reader: ffi::Reader::place(),
+            refusal: None,
+            missing: ffi::FRAME,
+        };
+        match this.reader.open(request, reply_size) {
+            Ok(()) => this.missing = this.reader.missing(),
+            Err(error) => this.refusal = Some(error),
         }
+        this
     }
 
     /// Why the reader was refused when it was made, if it was. `dalybms_lib` has no such question.
@@ -41,27 +48,28 @@ impl FrameReader {
     }
 
     /// Whether all frames of the reply are there.
+    #[inline]
     pub fn is_complete(&self) -> bool {
-        self.refusal.is_none() && self.reader.is_complete()
+        self.missing == 0
     }
 
     /// How many bytes the next frame still needs; 0 once complete.
+    #[inline]
     pub fn missing(&self) -> usize {
-        match self.refusal {
-            Some(_) => ffi::FRAME,
-            None => self.reader.missing(),
-        }
+        self.missing
     }
 
     /// Takes bytes of the line.
     ///
     /// It answers [`Error::UnexpectedFrame`] where more than 512 bytes were discarded since the reader was
     /// made. The bytes are taken all the same.
+    #[inline]
     pub fn push(&mut self, data: &[u8]) -> Result<(), Error> {
         self.push_counted(data).said
     }
 
     /// As [`FrameReader::push`], and tells how many of the bytes it took. `dalybms_lib` has no such question.
+    #[inline]
     pub fn push_counted(&mut self, data: &[u8]) -> Pushed {
         if let Some(error) = self.refusal {
             return Pushed {
@@ -70,6 +78,7 @@ impl FrameReader {
             };
         }
         let said = self.reader.push(data);
+        self.missing = said.missing.into();
         Pushed {
             took: said.took,
             said: Error::check(said.status),

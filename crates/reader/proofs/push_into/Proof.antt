@@ -1,5 +1,5 @@
 use borrow.Author.Needs.{needs}
-use Rattle.reader.proofs.Refusing.{sane, is-refused, not-refused}
+use Rattle.reader.proofs.Refusing.{sane, few-unmarked, is-refused, not-refused}
 use Rattle.reader.proofs.Answer.{answered-bad, answered}
 use Rattle.reader.proofs.push_into.Statement.{statement}
 use Rattle.reader.proofs.push_into.Tie as tie
@@ -19,7 +19,10 @@ advance-requires c κs =
     sane (a .c) (a .frames .now) (not-refused (a .c) (a .frames .now) (e .before .state-number .result) (e .before .state-number .ensures) (e .if1 .left))
 
 passed-requires : tie.Need-passed-requires
-passed-requires c κs = search needs
+passed-requires c κs =
+    let e = c .before .before in
+    let a = e .before .before .before .before .args in
+    few-unmarked (a .c) (a .frames .now) (not-refused (a .c) (a .frames .now) (e .before .state-number .result) (e .before .state-number .ensures) (e .if1 .left))
 
 add-count-requires : tie.Need-add-count-requires
 add-count-requires c κs = search needs

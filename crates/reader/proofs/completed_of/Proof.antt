@@ -1,0 +1,21 @@
+use borrow.Author.Needs.{needs}
+use Rattle.reader.proofs.Asking.{complete-bad, complete-is}
+use Rattle.reader.proofs.completed_of.Statement.{statement}
+use Rattle.reader.proofs.completed_of.Tie as tie
+
+state-number-requires : tie.Need-state-number-requires
+state-number-requires c κs = search needs
+
+returns : tie.Need-returns
+returns c =
+    let k = c .before in
+    let a = k .before .args in complete-bad (a .c) (a .frames .now) (k .state-number .result) (k .state-number .ensures) (c .if1 .taken)
+
+returns-2 : tie.Need-returns-2
+returns-2 c =
+    let e = c .before in
+    let k = e .before in
+    let a = k .before .args in complete-is (a .c) (a .frames .now) (k .state-number .result) (k .state-number .ensures) (e .if1 .left)
+
+pub completed-of-spec : {M : Type 1} → statement M
+completed-of-spec = tie.close (tie.spec state-number-requires returns returns-2)

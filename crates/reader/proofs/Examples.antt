@@ -11,7 +11,8 @@ use Rattle.rules.specs.Reader.{Answer, bad, complete, heldOf, untaken, did, boo
 use Rattle.rules.proofs.Examples.{answered, c90, frame90}
 use Rattle.reader.specs.declared.Counts.{Counts}
 use Rattle.reader.specs.View.{chop, front, view, Answered}
-use Rattle.reader.specs.Told.{freshCounts, freshReader, opened, missingTold, completeTold}
+use Rattle.reader.specs.Lent.{seen}
+use Rattle.reader.specs.Told.{freshCounts, freshReader, openingOf, opened, missingTold, completeTold}
 
 -- the first bytes of a request
 abbrev request : List ℕ
@@ -27,6 +28,11 @@ new : (opened request 14 .reader .counts ≡ freshCounts 0x95 2) × (opened requ
     × (opened request 1106 .reader .counts ≡ freshCounts 0 0) × (opened request 1106 .number ≡ 6)
     × (opened (0xA5 ∷ 0x40 ∷ []) 1106 .reader .counts ≡ freshCounts 0 0) × (opened (0xA5 ∷ 0x40 ∷ []) 1106 .number ≡ 7)
 new = (refl, refl, refl, refl, refl, refl)
+
+-- the same without the array
+new-numbers : (openingOf request 14 ≡ record { number = 0; counts = freshCounts 0x95 2 }) × (openingOf request 1106 ≡ record { number = 6; counts = freshCounts 0 0 })
+    × (openingOf (0xA5 ∷ 0x40 ∷ []) 1106 ≡ record { number = 7; counts = freshCounts 0 0 })
+new-numbers = (refl, refl, refl)
 
 -- one that has discarded 513 bytes and not its mark
 abbrev harmed : Counts
@@ -45,7 +51,7 @@ fresh-numbers = refl
 abbrev halfway : Counts
 halfway = record { command = 0x95; mark = true; taken = 42; discarded = 1; cleared = 5; wanted = 3; collected = 2; held = 3 }
 
-seen : view halfway (replicate 13 1 ++ replicate 13 2 ++ (0xA5 ∷ 4 ∷ 5 ∷ 6 ∷ []))
+viewed : view halfway (replicate 13 1 ++ replicate 13 2 ++ (0xA5 ∷ 4 ∷ 5 ∷ 6 ∷ []))
     ≡ record {
       config = record { command = 0x95; wanted = 3 };
       collected = replicate 13 1 ∷ replicate 13 2 ∷ [];
@@ -56,7 +62,11 @@ seen : view halfway (replicate 13 1 ++ replicate 13 2 ++ (0xA5 ∷ 4 ∷ 5 ∷ 6
       mark = true;
     }
 unfolding view chop front
-seen = refl
+viewed = refl
+
+-- so is a reader that the caller has
+seen-lent : seen (record { counts = halfway; frames = replicate 13 1 ++ replicate 13 2 ++ (0xA5 ∷ 4 ∷ 5 ∷ 6 ∷ []) }) ≡ view halfway (replicate 13 1 ++ replicate 13 2 ++ (0xA5 ∷ 4 ∷ 5 ∷ 6 ∷ []))
+seen-lent = refl
 
 -- "n numbers in any case"
 short : front 3 (1 ∷ []) ≡ 1 ∷ 0 ∷ 0 ∷ []

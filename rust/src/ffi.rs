@@ -4,8 +4,8 @@ mod reader;
 mod told;
 
 use crate::Error;
-pub use told::Reader;
 use told::{CellVoltageRange, List, MosfetStatus, Soc, Status, TemperatureRange};
+pub use told::{Counts, Reader};
 
 /// Bytes of a frame.
 pub const FRAME: usize = 13;

@@ -30,16 +30,18 @@ impl FrameReader {
     /// than 1,105 with [`Error::ReplyTooLong`]: such a reader answers the error to every push, is never
     /// complete, lacks a frame and has no bytes.
     pub fn new(request: &[u8], reply_size: usize) -> Self {
-        let mut this = Self {
-            reader: ffi::Reader::place(),
-            refusal: None,
-            missing: ffi::FRAME,
+        let (counts, missing, refusal) = match ffi::Reader::open(request, reply_size) {
+            Ok((counts, missing)) => (counts, missing, None),
+            Err(error) => (ffi::Counts::default(), ffi::FRAME, Some(error)),
         };
-        match this.reader.open(request, reply_size) {
-            Ok(()) => this.missing = this.reader.missing(),
-            Err(error) => this.refusal = Some(error),
+        Self {
+            reader: ffi::Reader {
+                counts,
+                frames: [0; ffi::FRAMES],
+            },
+            refusal,
+            missing,
         }
-        this
     }
 
     /// Why the reader was refused when it was made, if it was. `dalybms_lib` has no such question.

@@ -9,7 +9,6 @@ from collections import namedtuple
 from sources import crate_names
 
 CRATE = "uncoded"
-NAME = re.compile(r"Rattle·(\w+?)(·specs|·proofs)?\.(?:(?<=·specs\.)|(?<=·proofs\.))?")
 TYPE = re.compile(r"^((?:#\[[^\n]*\]\n)*)(?:pub(?:\(crate\))? )?((?:struct|enum) (\w+) \{\n.*?^\})", re.M | re.S)
 
 # Where a module stands (`specs` or `proofs`), its name here, its text, and those of these modules that it uses.

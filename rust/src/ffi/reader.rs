@@ -18,27 +18,31 @@ extern "C" {
 }
 
 impl Reader {
-    /// A place for a reader, whose frames nobody has written yet: `open` is called next.
-    pub const fn place() -> Self {
-        let counts = Counts {
-            command: 0,
-            mark: 0,
-            taken: 0,
-            discarded: 0,
-            cleared: 0,
-            wanted: 0,
-            collected: 0,
-            held: 0,
+    /// What a new reader begins with: its counts, all zero where it is refused, and how many bytes it lacks.
+    pub fn open(request: &[u8], reply_size: usize) -> (Counts, Result<usize, Error>) {
+        let mut place = MaybeUninit::<Self>::uninit();
+        let (out, bytes) = (place.as_mut_ptr(), request.as_ptr());
+        // SAFETY: as in `super::check`; the place is alive and lent to nobody else, and is then filled.
+        let (number, reader) = unsafe {
+            let number = daly_reader_new(out, bytes, request.len(), reply_size);
+            (number, place.assume_init_ref())
         };
-        let frames = MaybeUninit::uninit();
-        Self { counts, frames }
+        let missing = Error::check(number).map(|()| reader.missing());
+        (reader.counts, missing)
     }
 
-    /// Makes it a reader, which is all zero where it is refused.
-    pub fn open(&mut self, request: &[u8], reply_size: usize) -> Result<(), Error> {
-        // SAFETY: as in `super::check`; the reader is alive and lent to nobody else, and is only written to.
-        let number = unsafe { daly_reader_new(self, request.as_ptr(), request.len(), reply_size) };
-        Error::check(number)
+    /// A reader with nothing in its frames. The library reads no place behind the held bytes, so none is written
+    /// here. A new reader has the two zeros already: naming them keeps rustc from copying 1,152 bytes.
+    #[inline]
+    pub const fn empty(counts: Counts) -> Self {
+        Self {
+            counts: Counts {
+                collected: 0,
+                held: 0,
+                ..counts
+            },
+            frames: MaybeUninit::uninit(),
+        }
     }
 
     #[inline]
@@ -55,6 +59,7 @@ impl Reader {
     }
 
     /// The collected frames; none of a bad state.
+    #[inline]
     pub fn copy_out(&self) -> Vec<u8> {
         let room = self.counts.collected.saturating_mul(FRAME).min(FRAMES);
         let mut out = Vec::with_capacity(room);

@@ -110,8 +110,8 @@ pub struct Counts {
     pub held: usize,
 }
 
-/// The collected frames stand at the front of `frames`, the held bytes behind them. The library fills it before it
-/// reads it.
+/// The collected frames stand at the front of `frames`, the held bytes behind them. The library writes a place
+/// before it reads it.
 #[derive(Clone, Copy)]
 #[repr(C)]
 pub struct Reader {

@@ -30,16 +30,12 @@ impl FrameReader {
     /// than 1,105 with [`Error::ReplyTooLong`]: such a reader answers the error to every push, is never
     /// complete, lacks a frame and has no bytes.
     pub fn new(request: &[u8], reply_size: usize) -> Self {
-        let mut this = Self {
-            reader: ffi::Reader::place(),
-            refusal: None,
-            missing: ffi::FRAME,
-        };
-        match this.reader.open(request, reply_size) {
-            Ok(()) => this.missing = this.reader.missing(),
-            Err(error) => this.refusal = Some(error),
+        let (counts, missing) = ffi::Reader::open(request, reply_size);
+        Self {
+            reader: ffi::Reader::empty(counts),
+            refusal: missing.err(),
+            missing: missing.unwrap_or(ffi::FRAME),
         }
-        this
     }
 
     /// Why the reader was refused when it was made, if it was. `dalybms_lib` has no such question.
@@ -91,6 +87,7 @@ impl FrameReader {
     }
 
     /// The frames, one after the other, complete or not.
+    #[inline]
     pub fn into_bytes(self) -> Vec<u8> {
         self.reader.copy_out()
     }

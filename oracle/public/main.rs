@@ -20,6 +20,7 @@ mod original;
 mod port;
 #[path = "../compare/random.rs"]
 mod random;
+mod readers;
 mod refusals;
 mod texts;
 #[path = "../compare/told.rs"]
@@ -37,6 +38,7 @@ fn run(seed: u64, small: bool) -> Vec<bool> {
         refusals::PARTS.to_vec(),
         counts::PARTS.to_vec(),
         texts::PARTS.to_vec(),
+        readers::PARTS.to_vec(),
     ]
     .concat();
     let seeded = || (seed..).zip(&parts);

@@ -3,11 +3,18 @@
 mod libc {
     pub const STDIN_FILENO: i32 = 0;
     pub const STDOUT_FILENO: i32 = 1;
+    pub const STDERR_FILENO: i32 = 2;
 
     mod c {
         extern "C" {
             pub fn read(file: i32, buffer: *mut u8, len: usize) -> isize;
+            pub fn isatty(file: i32) -> i32;
         }
+    }
+
+    pub fn isatty(file: i32) -> i32 {
+        // SAFETY: it takes any number.
+        unsafe { c::isatty(file) }
     }
 
     pub fn read(file: i32, buffer: &mut [u8]) -> isize {
@@ -27,12 +34,19 @@ mod io {
         usize::try_from(got).unwrap_or(0).min(buffer.len())
     }
 
-    pub fn write_all(_: i32, buffer: &[u8]) -> bool {
+    pub fn write_all(file: i32, buffer: &[u8]) -> bool {
+        if file == super::libc::STDERR_FILENO {
+            return std::io::stderr().write_all(buffer).is_ok();
+        }
         std::io::stdout().write_all(buffer).is_ok()
     }
 }
 
 mod os {
+    pub fn arg_count() -> usize {
+        std::env::args_os().len()
+    }
+
     pub fn open_update(_: &[u8]) -> i32 {
         -1
     }

@@ -31,9 +31,17 @@ pub enum Error {
 
 impl Error {
     /// The library's number as a result; 0 is done.
+    #[inline]
     pub(crate) fn check(number: u8) -> Result<(), Self> {
-        Err(match number {
-            0 => return Ok(()),
+        match number {
+            0 => Ok(()),
+            refusal => Err(Self::refusal(refusal)),
+        }
+    }
+
+    #[cold]
+    fn refusal(number: u8) -> Self {
+        match number {
             1 => Self::ReplySizeError,
             2 => Self::UnexpectedFrame,
             3 => Self::CheckSumError,
@@ -44,7 +52,7 @@ impl Error {
             8 => Self::BadState,
             11 => Self::CountTooLarge,
             other => Self::Impossible(other),
-        })
+        }
     }
 
     /// The refusal's number, as the library and `readreply` tell it.

@@ -18,19 +18,31 @@ extern "C" {
 }
 
 impl Reader {
-    /// The numbers of a new reader and what it lacks, or why it is refused. Its frames are zeros, which the caller makes
-    /// anew where the reader is to lie: that is quicker than a copy.
-    #[inline]
-    pub fn open(request: &[u8], reply_size: usize) -> Result<(Counts, usize), Error> {
-        let mut reader = MaybeUninit::<Self>::uninit();
-        let (bytes, length) = (request.as_ptr(), request.len());
-        // SAFETY: as in `super::check`; the reader is alive and lent to nobody else, and is filled whole.
-        let reader = unsafe {
-            let number = daly_reader_new(reader.as_mut_ptr(), bytes, length, reply_size);
-            Error::check(number)?;
-            reader.assume_init_ref()
+    /// What a new reader begins with: its counts, all zero where it is refused, and how many bytes it lacks.
+    pub fn open(request: &[u8], reply_size: usize) -> (Counts, Result<usize, Error>) {
+        let mut place = MaybeUninit::<Self>::uninit();
+        let (out, bytes) = (place.as_mut_ptr(), request.as_ptr());
+        // SAFETY: as in `super::check`; the place is alive and lent to nobody else, and is then filled.
+        let (number, reader) = unsafe {
+            let number = daly_reader_new(out, bytes, request.len(), reply_size);
+            (number, place.assume_init_ref())
         };
-        Ok((reader.counts, reader.missing()))
+        let missing = Error::check(number).map(|()| reader.missing());
+        (reader.counts, missing)
+    }
+
+    /// A reader with nothing in its frames. The library reads no place behind the held bytes, so none is written
+    /// here. A new reader has the two zeros already: naming them keeps rustc from copying 1,152 bytes.
+    #[inline]
+    pub const fn empty(counts: Counts) -> Self {
+        Self {
+            counts: Counts {
+                collected: 0,
+                held: 0,
+                ..counts
+            },
+            frames: MaybeUninit::uninit(),
+        }
     }
 
     #[inline]
@@ -47,6 +59,7 @@ impl Reader {
     }
 
     /// The collected frames; none of a bad state.
+    #[inline]
     pub fn copy_out(&self) -> Vec<u8> {
         let room = self.counts.collected.saturating_mul(FRAME).min(FRAMES);
         let mut out = Vec::with_capacity(room);

@@ -1,6 +1,7 @@
 //! The answers, as the library lays them out. A flag is taken as a byte; it is 0 or 1.
 
 use super::FRAMES;
+use std::mem::MaybeUninit;
 
 #[repr(C)]
 pub struct Soc {
@@ -96,7 +97,7 @@ pub struct Pack {
     pub difference: i32,
 }
 
-#[derive(Clone, Copy, Debug, Default)]
+#[derive(Clone, Copy, Debug)]
 #[repr(C)]
 pub struct Counts {
     pub command: u8,
@@ -109,12 +110,13 @@ pub struct Counts {
     pub held: usize,
 }
 
-/// The collected frames stand at the front of `frames`, the held bytes behind them.
+/// The collected frames stand at the front of `frames`, the held bytes behind them. The library writes a place
+/// before it reads it.
 #[derive(Clone, Copy)]
 #[repr(C)]
 pub struct Reader {
     pub counts: Counts,
-    pub frames: [u8; FRAMES],
+    pub frames: MaybeUninit<[u8; FRAMES]>,
 }
 
 #[repr(C)]

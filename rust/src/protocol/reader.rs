@@ -30,17 +30,11 @@ impl FrameReader {
     /// than 1,105 with [`Error::ReplyTooLong`]: such a reader answers the error to every push, is never
     /// complete, lacks a frame and has no bytes.
     pub fn new(request: &[u8], reply_size: usize) -> Self {
-        let (counts, missing, refusal) = match ffi::Reader::open(request, reply_size) {
-            Ok((counts, missing)) => (counts, missing, None),
-            Err(error) => (ffi::Counts::default(), ffi::FRAME, Some(error)),
-        };
+        let (counts, missing) = ffi::Reader::open(request, reply_size);
         Self {
-            reader: ffi::Reader {
-                counts,
-                frames: [0; ffi::FRAMES],
-            },
-            refusal,
-            missing,
+            reader: ffi::Reader::empty(counts),
+            refusal: missing.err(),
+            missing: missing.unwrap_or(ffi::FRAME),
         }
     }
 
@@ -93,6 +87,7 @@ impl FrameReader {
     }
 
     /// The frames, one after the other, complete or not.
+    #[inline]
     pub fn into_bytes(self) -> Vec<u8> {
         self.reader.copy_out()
     }

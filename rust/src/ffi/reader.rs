@@ -31,8 +31,8 @@ impl Reader {
         (reader.counts, missing)
     }
 
-    /// A reader with nothing in its frames. The library reads no place behind the held bytes, so none is written
-    /// here. A new reader has the two zeros already: naming them keeps rustc from copying 1,152 bytes.
+    /// A reader with nothing in its frames: what the library makes of these counts, made anew where it is to lie.
+    /// They have the two zeros already: naming them keeps rustc from copying 1,152 bytes.
     #[inline]
     pub const fn empty(counts: Counts) -> Self {
         Self {
@@ -41,7 +41,7 @@ impl Reader {
                 held: 0,
                 ..counts
             },
-            frames: MaybeUninit::uninit(),
+            frames: [0; FRAMES],
         }
     }
 

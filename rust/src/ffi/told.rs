@@ -1,7 +1,6 @@
 //! The answers, as the library lays them out. A flag is taken as a byte; it is 0 or 1.
 
 use super::FRAMES;
-use std::mem::MaybeUninit;
 
 #[repr(C)]
 pub struct Soc {
@@ -110,13 +109,12 @@ pub struct Counts {
     pub held: usize,
 }
 
-/// The collected frames stand at the front of `frames`, the held bytes behind them. The library writes a place
-/// before it reads it.
+/// The collected frames stand at the front of `frames`, the held bytes behind them.
 #[derive(Clone, Copy)]
 #[repr(C)]
 pub struct Reader {
     pub counts: Counts,
-    pub frames: MaybeUninit<[u8; FRAMES]>,
+    pub frames: [u8; FRAMES],
 }
 
 #[repr(C)]

@@ -22,10 +22,10 @@ use Rattle.reader.specs.declared.Turn.{Turn}
 use Rattle.reader.specs.declared.Missing.{Missing}
 use Rattle.reader.specs.declared.Completed.{Completed}
 use Rattle.reader.proofs.Agreeing.{TurnDecides, turned-once}
-use Rattle.daly.specs.declared.lists.ListTold.{ListTold}
+use Rattle.list.specs.declared.ListTold.{ListTold}
 use Rattle.daly.specs.Lists.{TellsCollected}
 use Rattle.daly.proofs.Asked.{pinned}
-use Rattle.daly.proofs.Told.{tells-one}
+use Rattle.list.proofs.Told.{tells-one}
 use Rattle.daly.proofs.daly_calc_crc.Reads as daly-calc-crc
 use Rattle.daly.proofs.daly_frame_check.Reads as daly-frame-check
 use Rattle.daly.proofs.daly_frame_refusal.Reads as daly-frame-refusal

@@ -22,11 +22,11 @@ use Rattle.status.specs.declared.StatusAnswer.the-variants.{StatusGiven, Status
 use Rattle.list.specs.declared.Listed.the-variants.{Stored, NotStored}
 use Rattle.pack.specs.declared.PackAnswer.the-variants.{PackChecked, PackRefused}
 use Rattle.daly.specs.Readings.{socTold, socCountsTold, cellVoltageRangeTold, cellVoltageRangeCountsTold, temperatureRangeTold, mosfetStatusTold, mosfetStatusCountsTold, statusTold}
-use Rattle.daly.specs.Lists.{listTold, TellsVoltages, TellsMillivolts, TellsTemperatures, TellsBalance, TellsFaults, TellsCollected}
+use Rattle.daly.specs.Lists.{TellsVoltages, TellsMillivolts, TellsTemperatures, TellsBalance, TellsFaults, TellsCollected}
 use Rattle.daly.specs.Packs.{packTold}
 use Rattle.daly.specs.Requests.{oneOf, commands, requestOf, Requests}
-use Rattle.daly.specs.declared.lists.ListTold.{ListTold}
-use Rattle.list.specs.Listed.{gate}
+use Rattle.list.specs.declared.ListTold.{ListTold}
+use Rattle.list.specs.Listed.{gate, listTold}
 use Rattle.list.specs.Numbered.{judge, judged}
 use Rattle.flags.specs.Faults.{faults}
 use Rattle.rules.specs.Reader.{joined, bad, complete}

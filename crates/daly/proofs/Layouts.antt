@@ -1,17 +1,13 @@
--- How the structs that C shares with the library lie in memory, by the machine that the proofs are about: the size, and where each field
--- begins, in the order of declaration. `tools/test_layouts` holds these lines to C's and Rust's. Assumes nothing.
-use Prim.Native.Nat.{ℕ, zero, suc}
+-- How the structs that C shares with the library lie in memory. `tools/test_layouts` holds these lines to C's and Rust's. Assumes nothing.
 use mathlib.Core.Path.{_≡_, refl}
-use mathlib.Core.List.{List, [], _∷_}
-use mathlib.Core.Option.{Option, some, none}
-use mir.Syntax.{Ty}
-use prog.Memory.{size, fieldOf}
+use mathlib.Core.List.{[], _∷_}
+use Rattle.wire.proofs.Places.{layout}
 use Rattle.reader.proofs.Counts.Laws as Counts
 use Rattle.reader.proofs.FrameReader.Laws as FrameReader
 use Rattle.reader.proofs.Turn.Laws as Turn
 use Rattle.reader.proofs.Missing.Laws as Missing
 use Rattle.reader.proofs.Completed.Laws as Completed
-use Rattle.daly.proofs.lists.ListTold.Laws as ListTold
+use Rattle.list.proofs.ListTold.Laws as ListTold
 use Rattle.daly.proofs.packs.PackTold.Laws as PackTold
 use Rattle.daly.proofs.readings.SocTold.Laws as SocTold
 use Rattle.daly.proofs.readings.SocCountsTold.Laws as SocCountsTold
@@ -21,18 +17,6 @@ use Rattle.daly.proofs.readings.TemperatureRangeTold.Laws as Temperatur
 use Rattle.daly.proofs.readings.MosfetStatusTold.Laws as MosfetStatusTold
 use Rattle.daly.proofs.readings.MosfetStatusCountsTold.Laws as MosfetStatusCountsTold
 use Rattle.daly.proofs.readings.StatusTold.Laws as StatusTold
-
--- where the fields from k on begin, at most `most` of them
-abbrev before : Option (Ty × ℕ) → List ℕ → List ℕ
-before none rest = []
-before (some (field, at)) rest = at ∷ rest
-
-abbrev begins : Ty → ℕ → ℕ → List ℕ
-begins τ zero k = []
-begins τ (suc most) k = before (fieldOf τ k) (begins τ most (suc k))
-
-abbrev layout : Ty → List ℕ
-layout τ = size τ ∷ begins τ 16 0
 
 counts : layout Counts.mir ≡ 40 ∷ 0 ∷ 1 ∷ 4 ∷ 8 ∷ 12 ∷ 16 ∷ 24 ∷ 32 ∷ []
 counts = refl

@@ -1,5 +1,4 @@
 pub mod Asked
-pub mod Told
 pub mod Shared
 pub mod Layouts
 pub mod Examples

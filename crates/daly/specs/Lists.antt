@@ -1,32 +1,17 @@
 -- What C is told of a many-valued reply. Definitions only.
 use Prim.Native.Nat.{ℕ}
-use mathlib.Core.Path.{_≡_}
 use mathlib.Core.Bool.{Bool}
 use mathlib.Core.List.{List}
 use lib.ListN.{length}
 use lib.IntN.{ℤ}
 use lib.Ieee.{Float}
 use Rattle.wire.specs.Lists.{firsts}
-use Rattle.frame.specs.declared.Check.{Check}
-use Rattle.frame.specs.Refusals.{refusalNumber}
-use Rattle.list.specs.declared.Listed.{Listed}
-use Rattle.list.specs.declared.Listed.the-variants.{Stored, NotStored}
-use Rattle.list.specs.Listed.{answerOf, after}
+use Rattle.list.specs.declared.ListTold.{ListTold}
+use Rattle.list.specs.Listed.{Tells}
 use Rattle.list.specs.Cells.{voltageAt, millivoltsAt, temperatureAt, voltagesCheck, temperaturesCheck}
 use Rattle.flags.specs.Balance.{flagCount, flagAt, balanceCheck}
 use Rattle.flags.specs.Faults.{faults, faultsCheck}
 use Rattle.rules.specs.Reader.{Reader, copyCheck, joined}
-use Rattle.daly.specs.declared.lists.ListTold.{ListTold}
-
--- 0 and how many values, or the refusal's number and none
-abbrev pub listTold : Listed → ListTold
-listTold (Stored n) = record { number = 0; count = n }
-listTold (NotStored r) = record { number = refusalNumber r; count = 0 }
-
--- as `Decodes` of the crate `list`, with the answer told so
-pub record Tells {A : Type 0} (check : Check) (values out : List A) (r : ListTold) (exit : List A) : Type 0 where
-  pub answer : r ≡ listTold (answerOf check (length values))
-  pub left : exit ≡ after check values out
 
 -- of the reply s and the count n, the lent places before and after, and the answer
 abbrev pub TellsVoltages : List ℕ → ℕ → List Float → ListTold → List Float → Type 0

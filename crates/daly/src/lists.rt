@@ -1,26 +1,8 @@
 // The many-valued replies, for C: the number and how many values were stored, the values in lent memory.
 ghost use mathlib.Core.Path.{_≡_};
 ghost use Rattle.list.specs.Numbered.{replySize};
-ghost use Rattle.daly.specs.Lists.{listTold, TellsVoltages, TellsMillivolts, TellsTemperatures, TellsBalance, TellsFaults};
-use list::Listed;
-
-#[repr(C)]
-pub struct ListTold {
-    pub number: u8,
-    pub count: usize,
-}
-
-pub(crate) fn told(listed: Listed) -> ListTold
-    ensures { λ r. ⌜ r ≡ listTold listed ⌝ }
-{
-    match listed {
-        Listed::Stored(count) => ListTold { number: 0, count },
-        Listed::NotStored(refusal) => ListTold {
-            number: refusal.number(),
-            count: 0,
-        },
-    }
-}
+ghost use Rattle.daly.specs.Lists.{TellsVoltages, TellsMillivolts, TellsTemperatures, TellsBalance, TellsFaults};
+use list::ListTold;
 
 #[no_mangle]
 pub extern "C" fn daly_cell_voltages_reply_size(n_cells: u8) -> usize
@@ -40,14 +22,14 @@ pub extern "C" fn daly_cell_temperatures_reply_size(n_sensors: u8) -> usize
 pub extern "C" fn daly_cell_voltages(rx_buffer: &[u8], n_cells: u8, out: &mut [f32]) -> ListTold
     ensures { λ r. ⌜ TellsVoltages (now («rx_buffer» .entry)) «n_cells» (now (out .entry)) r (now (out .exit)) ⌝ }
 {
-    told(list::decode_cell_voltages(rx_buffer, n_cells, out))
+    list::decode_cell_voltages(rx_buffer, n_cells, out).told()
 }
 
 #[no_mangle]
 pub extern "C" fn daly_cell_millivolts(rx_buffer: &[u8], n_cells: u8, out: &mut [u16]) -> ListTold
     ensures { λ r. ⌜ TellsMillivolts (now («rx_buffer» .entry)) «n_cells» (now (out .entry)) r (now (out .exit)) ⌝ }
 {
-    told(list::decode_cell_millivolts(rx_buffer, n_cells, out))
+    list::decode_cell_millivolts(rx_buffer, n_cells, out).told()
 }
 
 #[no_mangle]
@@ -58,7 +40,7 @@ pub extern "C" fn daly_cell_temperatures(
 ) -> ListTold
     ensures { λ r. ⌜ TellsTemperatures (now («rx_buffer» .entry)) «n_sensors» (now (out .entry)) r (now (out .exit)) ⌝ }
 {
-    told(list::decode_cell_temperatures(rx_buffer, n_sensors, out))
+    list::decode_cell_temperatures(rx_buffer, n_sensors, out).told()
 }
 
 #[no_mangle]
@@ -69,7 +51,7 @@ pub extern "C" fn daly_cell_balance_state(
 ) -> ListTold
     ensures { λ r. ⌜ TellsBalance (now («rx_buffer» .entry)) «n_cells» (now (out .entry)) r (now (out .exit)) ⌝ }
 {
-    told(flags::decode_cell_balance_state(rx_buffer, n_cells, out))
+    flags::decode_cell_balance_state(rx_buffer, n_cells, out).told()
 }
 
 // Positions in the Rust's `ErrorCode`.
@@ -77,5 +59,5 @@ pub extern "C" fn daly_cell_balance_state(
 pub extern "C" fn daly_error_codes(rx_buffer: &[u8], out: &mut [u8]) -> ListTold
     ensures { λ r. ⌜ TellsFaults (now («rx_buffer» .entry)) (now (out .entry)) r (now (out .exit)) ⌝ }
 {
-    told(flags::decode_error_codes(rx_buffer, out))
+    flags::decode_error_codes(rx_buffer, out).told()
 }

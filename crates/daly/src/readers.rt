@@ -4,8 +4,7 @@ ghost use Rattle.reader.specs.View.{view};
 ghost use Rattle.reader.specs.Lent.{TurnedLent, OpenedLent, seen};
 ghost use Rattle.reader.specs.Told.{missingTold, completeTold};
 ghost use Rattle.daly.specs.Lists.{TellsCollected};
-use crate::lists::ListTold;
-use crate::lists::told;
+use list::ListTold;
 use reader::Completed;
 use reader::Counts;
 use reader::FrameReader;
@@ -61,7 +60,7 @@ pub extern "C" fn daly_reader_is_complete(reader: &FrameReader) -> Completed
 fn told_from(frames: &[u8; 1105], c: Counts, out: &mut [u8]) -> ListTold
     ensures { λ r. ⌜ TellsCollected (view c (now (frames .entry))) (now (out .entry)) r (now (out .exit)) ⌝ }
 {
-    told(copy_from(frames, c, out))
+    copy_from(frames, c, out).told()
 }
 
 #[no_mangle]

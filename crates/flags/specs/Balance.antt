@@ -8,7 +8,7 @@ use Rattle.wire.specs.Lists.{firsts}
 use Rattle.frame.specs.declared.Check.{Check}
 use Rattle.frame.specs.Checks.{frameCheck}
 use Rattle.list.specs.declared.Listed.{Listed}
-use Rattle.list.specs.Listed.{gate, Decodes}
+use Rattle.list.specs.Listed.{gate, Stores}
 
 -- "n = 0 yields one flag, n above 48 yields 48"
 abbrev pub flagCount : ℕ → ℕ
@@ -24,4 +24,4 @@ balanceCheck s n room = gate 13 (flagCount n) room s (frameCheck 0x97 s)
 
 -- the statement: of the reply s and the count n, the lent places before and after, and the answer
 abbrev pub DecodesBalance : List ℕ → ℕ → List Bool → Listed → List Bool → Type 0
-DecodesBalance s n out r exit = Decodes (balanceCheck s n (length out)) (firsts (flagAt s) (flagCount n)) out r exit
+DecodesBalance s n out r exit = Stores (balanceCheck s n (length out)) (firsts (flagAt s) (flagCount n)) out r exit

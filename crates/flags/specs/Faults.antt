@@ -8,7 +8,7 @@ use Rattle.wire.specs.Lists.{firsts}
 use Rattle.frame.specs.declared.Check.{Check}
 use Rattle.frame.specs.Checks.{frameCheck}
 use Rattle.list.specs.declared.Listed.{Listed}
-use Rattle.list.specs.Listed.{gate, Decodes}
+use Rattle.list.specs.Listed.{gate, Stores}
 
 -- one of the 48 tests: a bit of a byte of the reply, and the fault's position
 pub record Test : Type 0 where
@@ -54,4 +54,4 @@ faultsCheck s room = gate 13 48 room s (frameCheck 0x98 s)
 
 -- the statement: of the reply s, the lent places before and after, and the answer
 abbrev pub DecodesFaults : List ℕ → List ℕ → Listed → List ℕ → Type 0
-DecodesFaults s out r exit = Decodes (faultsCheck s (length out)) (faults s) out r exit
+DecodesFaults s out r exit = Stores (faultsCheck s (length out)) (faults s) out r exit

@@ -3,16 +3,16 @@ use Prim.Native.Nat.{ℕ}
 use mathlib.Core.Path.{_≡_, refl}
 use mathlib.Core.List.{List, [], _∷_, map}
 use lib.ListN.{replicate}
-use Rattle.frame.specs.declared.Refusal.the-variants.{ReplySizeError, UnexpectedFrame, CheckSumError, FrameNoError, UnknownMode, ReplyTooLong, RequestTooShort, BadState, NoRoom, UnknownCommand, CountTooLarge}
+use Rattle.frame.specs.declared.Refusal.the-variants.{ReplySizeError, UnexpectedFrame, CheckSumError, FrameNoError, UnknownMode, ReplyTooLong, RequestTooShort, BadState, NoRoom, UnknownCommand, CountTooLarge, ValueOutOfRange}
 use Rattle.frame.specs.Frame.{sum, total}
 use Rattle.frame.specs.Refusals.{refusalNumber, checkNumber}
 use Rattle.frame.specs.Checks.{sumOf, headerCheck, checksumCheck, framePart, partCheck}
 
--- document 01's table of refusals
+-- document 01's table of refusals, and document 02's 12
 numbers :
     map refusalNumber
-    (ReplySizeError ∷ UnexpectedFrame ∷ CheckSumError ∷ FrameNoError ∷ UnknownMode ∷ ReplyTooLong ∷ RequestTooShort ∷ BadState ∷ NoRoom ∷ UnknownCommand ∷ CountTooLarge ∷ [])
-    ≡ 1 ∷ 2 ∷ 3 ∷ 4 ∷ 5 ∷ 6 ∷ 7 ∷ 8 ∷ 9 ∷ 10 ∷ 11 ∷ []
+    (ReplySizeError ∷ UnexpectedFrame ∷ CheckSumError ∷ FrameNoError ∷ UnknownMode ∷ ReplyTooLong ∷ RequestTooShort ∷ BadState ∷ NoRoom ∷ UnknownCommand ∷ CountTooLarge ∷ ValueOutOfRange ∷ [])
+    ≡ 1 ∷ 2 ∷ 3 ∷ 4 ∷ 5 ∷ 6 ∷ 7 ∷ 8 ∷ 9 ∷ 10 ∷ 11 ∷ 12 ∷ []
 numbers = refl
 
 -- "the sum of a buffer of 0 or 1 bytes is 0"; of more, all bytes but the last, modulo 256

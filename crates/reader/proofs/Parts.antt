@@ -8,8 +8,8 @@ use native.Mathlib.Numerals.{add-one}
 use native.Mathlib.Nat.{zero-add, suc-add, add-zero}
 use borrow.Author.Tests.{ltb-true, ltb-false}
 use lib.Dec.{ltb}
-use lib.ListN.{length, take, drop, getD, set, length-drop}
-use lib.Seq.{paste, paste-zero, paste-suc, length-paste, take-paste, length-take-le, take-all, take-at, drop-at, take-nil, drop-nil, drop-drop, take-add, getD-drop, take-take, take-append-le}
+use lib.ListN.{length, take, drop, getD, length-drop}
+use lib.Seq.{paste, length-paste, take-paste, length-take-le, take-all, take-at, drop-at, take-nil, drop-nil, drop-drop, take-add, getD-drop, take-take, take-append-le}
 use Rattle.rules.specs.Reader.{joined}
 use Rattle.reader.specs.View.{chop, front}
 
@@ -54,17 +54,6 @@ chop-same (suc k) l m e =
     λ i. hd i ∷ chop-same k (drop 13 l) (drop 13 m) tl i
 
 -- ---- copies
-
--- a turn of the loop that copies
-pub copy-step : (f s : List ℕ) (n a j : ℕ) (g : List ℕ) → n + j < length f → a + j < length s → g ≡ paste f n (drop a s) j
-    → set g (n + j) (getD s (a + j) 0) ≡ paste f n (drop a s) (j + 1)
-copy-step f s n a j g lf ls e =
-    let l : j < length (drop a s) = omega (arith, length-drop a s) in
-    rw (e, add-one, ← getD-drop a s j 0) (paste-suc f n (drop a s) j 0 lf l)
-
--- one byte
-pub copy-one : (f s : List ℕ) (n a : ℕ) → n < length f → a < length s → set f n (getD s a 0) ≡ paste f n (drop a s) 1
-copy-one f s n a lf ls = rw (add-zero n, add-zero a) at (copy-step f s n a 0 f (omega arith) (omega arith) (paste-zero f n (drop a s)))
 
 -- the 13 bytes of s at `at`
 abbrev pub window : List ℕ → ℕ → List ℕ

@@ -3,7 +3,7 @@ ghost use mathlib.Core.Path.{_≡_};
 ghost use Prim.Native.Nat.{_-_, _≤_, _<_};
 ghost use lib.ListN.{length};
 ghost use Rattle.rules.specs.Reader.{copyCheck, joined};
-ghost use Rattle.list.specs.Listed.{Decodes};
+ghost use Rattle.list.specs.Listed.{Stores};
 ghost use Rattle.reader.specs.View.{view, Answered};
 ghost use Rattle.reader.specs.Told.{opened, openingOf, freshCounts, missingTold, completeTold};
 ghost use Rattle.reader.specs.Lent.{TurnedInto};
@@ -212,7 +212,7 @@ pub fn completed_of(frames: &[u8; 1105], c: Counts) -> Completed
 
 // The collected frames, one after the other, into `out`, likewise.
 pub fn copy_from(frames: &[u8; 1105], c: Counts, out: &mut [u8]) -> Listed
-    ensures { λ r. ⌜ Decodes (copyCheck (view c (now (frames .entry))) (length (now (out .entry)))) (joined (view c (now (frames .entry)) .collected)) (now (out .entry)) r (now (out .exit)) ⌝ }
+    ensures { λ r. ⌜ Stores (copyCheck (view c (now (frames .entry))) (length (now (out .entry)))) (joined (view c (now (frames .entry)) .collected)) (now (out .entry)) r (now (out .exit)) ⌝ }
 {
     if state::state_number(frames, c) != 0 {
         return Listed::NotStored(Refusal::BadState);
@@ -316,7 +316,7 @@ impl FrameReader {
 
     // The collected frames, one after the other, into `out`.
     pub fn copy_out(self, out: &mut [u8]) -> Listed
-        ensures { λ r. ⌜ Decodes (copyCheck (view (self .counts) (self .frames)) (length (now (out .entry)))) (joined (view (self .counts) (self .frames) .collected)) (now (out .entry)) r (now (out .exit)) ⌝ }
+        ensures { λ r. ⌜ Stores (copyCheck (view (self .counts) (self .frames)) (length (now (out .entry)))) (joined (view (self .counts) (self .frames) .collected)) (now (out .entry)) r (now (out .exit)) ⌝ }
     {
         let c = self.counts;
         copy_from(&self.frames, c, out)

@@ -14,7 +14,7 @@ use Rattle.frame.specs.declared.Refusal.{Refusal}
 use Rattle.frame.specs.declared.Check.{Check}
 use Rattle.list.specs.declared.Listed.{Listed}
 use Rattle.list.specs.declared.Listed.the-variants.{Stored, NotStored}
-use Rattle.list.specs.Listed.{Decodes}
+use Rattle.list.specs.Listed.{Stores}
 use Rattle.list.proofs.Decoding.{was-stored, was-refused}
 use Rattle.text.specs.Text.{Put, place}
 use Rattle.text.proofs.Putting.{put-then}
@@ -49,7 +49,7 @@ module _ {A : Type 0} (f : A → List ℕ) where
   put-every vs i h p = put-as (ap (λ k. each f (take k vs)) h ∙ ap (each f) (take-length vs)) p
 
 -- what a decoder stored, and the lines of it
-module _ {A : Type 0} {check : Check} {values out e : List A} {r : Listed} (d : Decodes check values out r e) where
+module _ {A : Type 0} {check : Check} {values out e : List A} {r : Listed} (d : Stores check values out r e) where
   pub stored-few : {k : ℕ} → r ≡ Stored k → k ≤ length e
   stored-few s =
       let w = was-stored check d s in

@@ -28,7 +28,7 @@ use Rattle.temperature_range.specs.TemperatureRange.{decodedTemperatureRange}
 use Rattle.mosfet_status.specs.MosfetStatus.{modeNumber, decodedMosfetStatusCounts}
 use Rattle.status.specs.Status.{decodedStatus}
 use Rattle.list.specs.Cells.{millivoltsAt, voltagesCheck, temperatureAt, temperaturesCheck}
-use Rattle.list.proofs.Filling.{length-firsts}
+use Rattle.wire.proofs.Firsts.{length-firsts}
 use Rattle.flags.specs.Balance.{flagCount, flagAt, balanceCheck}
 use Rattle.flags.specs.Faults.{Test, found, faultsBy, faultTests, faults, faultsCheck}
 use Rattle.text.specs.Words.{word}

@@ -7,24 +7,7 @@ use frame::command;
 fn request_frame(command: u8, payload: [u8; 8]) -> [u8; 13]
     ensures { λ r. ⌜ r ≡ request command payload ⌝ }
 {
-    let mut tx_buffer = [
-        frame::START_BYTE,
-        frame::HOST_ADDRESS,
-        command,
-        frame::DATA_LENGTH,
-        payload[0],
-        payload[1],
-        payload[2],
-        payload[3],
-        payload[4],
-        payload[5],
-        payload[6],
-        payload[7],
-        0,
-    ];
-    let checksum = frame::calc_crc(&tx_buffer);
-    tx_buffer[12] = checksum;
-    tx_buffer
+    frame::framed(frame::HOST_ADDRESS, command, payload)
 }
 
 // A request that carries no data.

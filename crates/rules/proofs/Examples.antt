@@ -7,7 +7,8 @@ use lib.ListN.{replicate}
 use Rattle.frame.specs.Frame.{total, sum}
 use Rattle.rules.specs.Rules.{Config, noise, wrongSum, wrongCommand, wrongNumber, discarded as thrown, collected as taken-in, sumRight, restarts, judge, look, stay, after, drops}
 use Rattle.rules.specs.Ledger.{turns, run, total as counted, spent}
-use Rattle.rules.specs.Reader.{Answer, fresh, complete, heldOf, untaken, did, booked, push, status, bad, answer, joined}
+use Rattle.rules.specs.Reader.{Reader, Answer, fresh, complete, heldOf, untaken, did, booked, push, status, bad, answer, joined}
+use Rattle.rules.specs.Gathered.{gathered}
 
 -- an answer, field by field
 abbrev pub answered : Config → ℕ → ℕ → List (List ℕ) → List ℕ → ℕ → ℕ → ℕ → Bool → Answer
@@ -153,3 +154,14 @@ ledger-bytes = refl
 pub chunks-joined : joined ((1 ∷ []) ∷ [] ∷ (2 ∷ 3 ∷ []) ∷ []) ≡ 1 ∷ 2 ∷ 3 ∷ []
 unfolding joined
 chunks-joined = refl
+
+-- a reader that has frames 1 and 2, counts near their ends, and the mark: a reply that comes whole then, as `gathered` has it and as the rules have it, with bytes behind it
+abbrev broken-off : Reader
+broken-off = answered c95 0 0 (f1 ∷ f2 ∷ []) [] 4294967290 7 4294967295 true .reader
+
+pub all-gathered : gathered broken-off (f1 ∷ f2 ∷ f3 ∷ []) ≡ answered c95 0 0 (f1 ∷ f2 ∷ f3 ∷ []) [] 33 7 1 true .reader
+all-gathered = refl
+
+pub as-pushed : push broken-off (f1 ++ f2 ++ f3 ++ (0xA5 ∷ 1 ∷ [])) ≡ gathered broken-off (f1 ∷ f2 ∷ f3 ∷ [])
+unfolding push did run turns look judge restarts sumRight sum total after drops stay booked counted complete heldOf untaken
+as-pushed = refl

@@ -5,6 +5,7 @@ pub mod Account
 pub mod Complete
 pub mod Good
 pub mod Demand
+pub mod Gather
 pub mod Auditor
 pub mod Restart
 pub mod Examples

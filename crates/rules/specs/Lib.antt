@@ -3,3 +3,4 @@ pub mod Rules
 pub mod Ledger
 pub mod Reader
 pub mod Demand
+pub mod Gathered

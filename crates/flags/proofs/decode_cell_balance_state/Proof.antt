@@ -1,7 +1,7 @@
 use mathlib.Core.Path.{refl}
 use native.Mathlib.Omega.{arith}
 use Rattle.list.proofs.Decoding.{opened, stored, refused}
-use Rattle.list.proofs.Filling.{length-firsts}
+use Rattle.wire.proofs.Firsts.{length-firsts}
 use borrow.Author.Needs.{needs}
 use Rattle.flags.proofs.decode_cell_balance_state.Statement.{statement}
 use Rattle.flags.proofs.decode_cell_balance_state.Tie as tie

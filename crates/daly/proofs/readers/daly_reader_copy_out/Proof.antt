@@ -45,13 +45,13 @@ use Rattle.reader.specs.View.{view}
 use Rattle.daly.specs.Lists.{TellsCollected}
 use Rattle.reader.specs.declared.FrameReader.{FrameReader}
 use Rattle.reader.specs.declared.Counts.{Counts}
-use Rattle.daly.specs.declared.lists.ListTold.{ListTold}
+use Rattle.list.specs.declared.ListTold.{ListTold}
 use Rattle.reader.proofs.FrameReader as T
 use Rattle.reader.proofs.FrameReader.Laws as T′
 use Rattle.reader.proofs.Counts as N
 use Rattle.reader.proofs.Counts.Laws as N′
-use Rattle.daly.proofs.lists.ListTold as S
-use Rattle.daly.proofs.lists.ListTold.Laws as S′
+use Rattle.list.proofs.ListTold as S
+use Rattle.list.proofs.ListTold.Laws as S′
 use Rattle.daly.proofs.readers.told_from as ask
 use Rattle.daly.proofs.readers.told_from.Symbol as ask-def
 use Rattle.daly.proofs.readers.told_from.Symbol.{name as #daly·told-from}

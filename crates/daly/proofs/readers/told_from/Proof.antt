@@ -1,5 +1,5 @@
 use borrow.Author.Needs.{needs}
-use Rattle.daly.proofs.Told.{tells}
+use Rattle.list.proofs.Told.{tells}
 use Rattle.daly.proofs.readers.told_from.Statement.{statement}
 use Rattle.daly.proofs.readers.told_from.Tie as tie
 

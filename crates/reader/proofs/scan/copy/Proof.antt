@@ -3,7 +3,7 @@ use native.Mathlib.Omega.{arith}
 use borrow.Author.Needs.{needs}
 use lib.ListN.{length, drop, length-set}
 use lib.Seq.{paste, paste-zero}
-use Rattle.reader.proofs.Parts.{copy-one, copy-step}
+use Rattle.wire.proofs.Copying.{copy-one, copy-step-from}
 use mathlib.Core.Path.{_≡_, refl, _∙_}
 use Rattle.reader.proofs.scan.copy.Statement.{statement}
 use Rattle.reader.proofs.scan.copy.Tie as tie
@@ -55,7 +55,7 @@ loop-again c =
     let l = c .before .before .loop in (
       omega arith,
       length-set (l .to) (b .args .start + l .i) _ ∙ l .inv .1,
-      copy-step (b .args .to .now) (b .args .from .now) (b .args .start) (b .args .at) (l .i) (l .to) (omega arith) (omega arith) (l .inv .2),
+      copy-step-from (b .args .to .now) (b .args .from .now) (b .args .start) (b .args .at) (l .i) (l .to) (omega arith) (omega arith) (l .inv .2),
     )
 
 same-length-2 : tie.Need-same-length-2 Inv-loop μ-loop

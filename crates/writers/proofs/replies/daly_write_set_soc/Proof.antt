@@ -1,0 +1,20 @@
+use borrow.Author.Needs.{needs}
+use Rattle.list.proofs.Told.{tells}
+use Rattle.writers.proofs.replies.daly_write_set_soc.Statement.{statement}
+use Rattle.writers.proofs.replies.daly_write_set_soc.Tie as tie
+
+write-set-soc-requires : tie.Need-write-set-soc-requires
+write-set-soc-requires c κs = search needs
+
+told-requires : tie.Need-told-requires
+told-requires c κs = search needs
+
+same-length : tie.Need-same-length
+same-length c = search needs
+
+returns : tie.Need-returns
+returns c = tells (c .before .before .before .write-set-soc .ensures) (c .told .ensures)
+
+pub daly-write-set-soc-spec : {M : Type 1} → statement M
+daly-write-set-soc-spec =
+    tie.close (tie.spec write-set-soc-requires told-requires same-length returns)

@@ -1,0 +1,4 @@
+pub mod Degrees
+pub mod Storing
+pub mod Examples
+pub mod Decided

@@ -1,0 +1,4 @@
+pub mod BalanceBack
+pub mod FaultsBack
+pub mod Examples
+pub mod Decided

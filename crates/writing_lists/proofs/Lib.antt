@@ -1,0 +1,6 @@
+pub mod Frames
+pub mod Cells
+pub mod Degrees
+pub mod Sensors
+pub mod Decided
+pub mod Examples

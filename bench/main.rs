@@ -3,6 +3,7 @@
 
 mod frames;
 mod reader;
+mod writers;
 
 use dalybms_lib::protocol::Address::Host;
 use dalybms_lib::protocol::*;
@@ -280,6 +281,7 @@ fn all_calls(task: Task) {
     one_frame();
     numbered();
     bits();
+    writers::all();
 }
 
 fn calls() {

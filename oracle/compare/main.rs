@@ -20,6 +20,7 @@ mod set_soc;
 mod sums;
 mod told;
 mod trial;
+mod writers;
 
 use std::process::ExitCode;
 use trial::{Outcome, Part};
@@ -79,6 +80,7 @@ fn run(options: &Options) -> Vec<bool> {
         &faults::parts(),
         pack::PARTS,
         &reader::parts(),
+        &writers::parts(),
     ]
     .concat();
     // A seed for each part, so that no part's cases depend on those before it.

@@ -27,6 +27,7 @@ mod texts;
 mod told;
 #[path = "../compare/trial.rs"]
 mod trial;
+mod written;
 
 use std::process::ExitCode;
 use trial::Part;
@@ -39,6 +40,7 @@ fn run(seed: u64, small: bool) -> Vec<bool> {
         counts::PARTS.to_vec(),
         texts::PARTS.to_vec(),
         readers::PARTS.to_vec(),
+        written::PARTS.to_vec(),
     ]
     .concat();
     let seeded = || (seed..).zip(&parts);

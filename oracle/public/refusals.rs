@@ -1,4 +1,4 @@
-//! The numbers of answers, beside document 01's table of refusals.
+//! The numbers of answers, beside the documents' tables of refusals.
 
 use crate::trial::{Part, Trial};
 use translated::frame::{Check, Refusal};
@@ -9,14 +9,14 @@ pub const PARTS: &[Part] = &[
     Part::new(
         "numbers",
         "of every refusal, in each kind of answer",
-        4 * 11,
+        4 * 12,
         refused,
     ),
     Part::new("numbers", "0 where there is an answer", 4 * 1_000, given),
 ];
 
-/// Document 01's refusals, 1 to 11, in its order.
-const REFUSALS: [Refusal; 11] = [
+/// Document 01's refusals, 1 to 11, in its order, and document 02's 12.
+const REFUSALS: [Refusal; 12] = [
     Refusal::ReplySizeError,
     Refusal::UnexpectedFrame,
     Refusal::CheckSumError,
@@ -28,6 +28,7 @@ const REFUSALS: [Refusal; 11] = [
     Refusal::NoRoom,
     Refusal::UnknownCommand,
     Refusal::CountTooLarge,
+    Refusal::ValueOutOfRange,
 ];
 
 fn compare(trial: &mut Trial, known: u8, ours: u8, kind: &str) {

@@ -28,10 +28,10 @@ extern "C" {
 
 /* ---- The version, as in CHANGELOG.md */
 
-#define DALY_VERSION "0.1.0"
+#define DALY_VERSION "0.1.1"
 #define DALY_VERSION_MAJOR 0
 #define DALY_VERSION_MINOR 1
-#define DALY_VERSION_PATCH 0
+#define DALY_VERSION_PATCH 1
 
 /* ---- Refusals */
 
@@ -47,7 +47,8 @@ enum {
     DALY_BAD_STATE = 8,         /* the reader's fields contradict one another */
     DALY_NO_ROOM = 9,           /* the lent places are too few */
     DALY_UNKNOWN_COMMAND = 10,  /* there is no request of this command */
-    DALY_COUNT_TOO_LARGE = 11   /* the pack check has over 255 cells */
+    DALY_COUNT_TOO_LARGE = 11,  /* the pack check, or a list to be written, has over 255 values */
+    DALY_VALUE_OUT_OF_RANGE = 12 /* a value to be written that no reply can say: a mode, a temperature, too few or too many flags */
 };
 
 /* ---- Commands, by the Rust's names */

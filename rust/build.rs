@@ -1,4 +1,5 @@
-//! Links libdaly.a, from DALY_LIB_DIR or, where that is not set, from ../target/staticlib.
+//! Links libdaly.a, and with the feature `board` also libwriters.a, from DALY_LIB_DIR or, where that is not set, from
+//! ../target/staticlib.
 
 use std::env;
 use std::path::{Path, PathBuf};
@@ -14,12 +15,8 @@ const TARGET: [(&str, &str); 3] = [
 ];
 
 fn main() -> ExitCode {
-    match check_target().and_then(|()| find_archive()) {
-        Ok(folder) => {
-            println!("cargo:rustc-link-search=native={}", folder.display());
-            println!("cargo:rustc-link-lib=static=daly");
-            ExitCode::SUCCESS
-        }
+    match check_target().and_then(|()| link()) {
+        Ok(()) => ExitCode::SUCCESS,
         Err(text) => {
             eprintln!("{text}");
             ExitCode::FAILURE
@@ -40,21 +37,31 @@ fn check_target() -> Result<(), String> {
     Ok(())
 }
 
-/// The archive's folder, whole: the linker runs in another one.
-fn find_archive() -> Result<PathBuf, String> {
+fn link() -> Result<(), String> {
     println!("cargo:rerun-if-env-changed={FOLDER}");
-    let archive = folder()?.join("libdaly.a");
+    let folder = folder()?;
+    link_archive(&folder, "daly")?;
+    match env::var_os("CARGO_FEATURE_BOARD") {
+        Some(_) => link_archive(&folder, "writers"),
+        None => Ok(()),
+    }
+}
+
+fn link_archive(folder: &Path, name: &str) -> Result<(), String> {
+    let archive = folder.join(format!("lib{name}.a"));
     println!("cargo:rerun-if-changed={}", archive.display());
-    let found = archive.canonicalize().ok();
-    found
-        .and_then(|path| path.parent().map(Path::to_path_buf))
-        .ok_or_else(|| {
-            format!(
-                "{} is missing. `rt staticlib daly`, at the top of the repository, makes it; \
-                 an archive in another folder is found by {FOLDER}.",
-                archive.display()
-            )
-        })
+    // Whole: the linker runs in another folder.
+    let Some(whole) = archive.canonicalize().ok() else {
+        return Err(format!(
+            "{} is missing. `rt staticlib {name}`, at the top of the repository, makes it; \
+             an archive in another folder is found by {FOLDER}.",
+            archive.display()
+        ));
+    };
+    let place = whole.parent().unwrap_or(folder);
+    println!("cargo:rustc-link-search=native={}", place.display());
+    println!("cargo:rustc-link-lib=static={name}");
+    Ok(())
 }
 
 fn folder() -> Result<PathBuf, String> {

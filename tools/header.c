@@ -1,11 +1,12 @@
-/* What include/daly.h declares, held to libdaly.a: an answer of every function. (Sizes: tools/test_layouts;
- * which name has which number: tools/test_names.) Expected values are worked out by hand from document 01. Closes with
- * `N passed, M failed`. */
+/* What include/daly.h and include/daly_writers.h declare, held to libdaly.a and libwriters.a: an answer of every function.
+ * (Sizes: tools/test_layouts; which name has which number: tools/test_names.) Expected values are worked out by hand from
+ * documents 01 and 02. Closes with `N passed, M failed`. */
 #include <stdio.h>
 #include <string.h>
 
 #include "daly.h"
 #include "daly_faults.h"
+#include "daly_writers.h"
 
 static int passed, failed;
 
@@ -249,6 +250,104 @@ static void reader(void)
     test(daly_reader_copy_out(&r, out, 12).number == DALY_NO_ROOM, "daly_reader_copy_out: no room");
 }
 
+/* What the writers are lent: the longest reply, and a byte more. */
+static uint8_t lent[DALY_FRAMES + 1];
+
+/* Whether just these frames were written, from the address 1. Every test makes the lent bytes anew. */
+static bool wrote(struct daly_list told, size_t frames, uint8_t command, const uint8_t data[][8])
+{
+    uint8_t wanted[DALY_FRAMES + 1];
+    memset(wanted, 0x5A, sizeof wanted);
+    for (size_t k = 0; k < frames; k++)
+        frame(wanted + DALY_FRAME * k, command, data[k]);
+    bool good = told.number == DALY_DONE && told.count == DALY_FRAME * frames && memcmp(lent, wanted, sizeof wanted) == 0;
+    memset(lent, 0x5A, sizeof lent);
+    return good;
+}
+
+/* Whether it was refused so, and nothing was written. */
+static bool refused(struct daly_list told, uint8_t number)
+{
+    for (size_t i = 0; i < sizeof lent; i++)
+        if (lent[i] != 0x5A)
+            return false;
+    return told.number == number && told.count == 0;
+}
+
+static void written_records(void)
+{
+    const struct daly_soc_wire s = {523, 29879, 874};
+    test(wrote(daly_write_soc(1, s, lent, 13), 1, 0x90, (const uint8_t[][8]){{0x02, 0x0B, 0, 0, 0x74, 0xB7, 0x03, 0x6A}}), "daly_write_soc: P6");
+    daly_write_soc(0xFE, s, lent, 13);
+    test(lent[1] == 0xFE && daly_soc_counts(lent, 13).current == -121, "daly_write_soc: another address, read back");
+    memset(lent, 0x5A, sizeof lent);
+
+    const struct daly_cell_voltage_range_wire v = {3301, 3, 3296, 8};
+    test(wrote(daly_write_cell_voltage_range(1, v, lent, 14), 1, 0x91, (const uint8_t[][8]){{0x0C, 0xE5, 3, 0x0C, 0xE0, 8, 0, 0}}),
+         "daly_write_cell_voltage_range");
+
+    const struct daly_temperature_range_wire t = {127, 1, -128, 2};
+    test(wrote(daly_write_temperature_range(1, t, lent, 14), 1, 0x92, (const uint8_t[][8]){{167, 1, 168, 2, 0, 0, 0, 0}}),
+         "daly_write_temperature_range: P7");
+
+    struct daly_mosfet_status_wire m = {2, true, false, 23, 16777219};
+    test(wrote(daly_write_mosfet_status(1, m, lent, 14), 1, 0x93, (const uint8_t[][8]){{2, 1, 0, 23, 0x01, 0, 0, 0x03}}), "daly_write_mosfet_status");
+    m.mode = 3;
+    test(refused(daly_write_mosfet_status(1, m, lent, 0), DALY_VALUE_OUT_OF_RANGE), "daly_write_mosfet_status: mode 3, and no room");
+
+    const struct daly_status_wire st = {8, 2, true, false, true, false, false, false, false, true, false, false, 300};
+    test(wrote(daly_write_status(1, st, lent, 14), 1, 0x94, (const uint8_t[][8]){{8, 2, 1, 0, 0x21, 0x01, 0x2C, 0}}), "daly_write_status");
+
+    test(refused(daly_write_soc(1, s, lent, 12), DALY_NO_ROOM) && refused(daly_write_cell_voltage_range(1, v, lent, 12), DALY_NO_ROOM) &&
+             refused(daly_write_temperature_range(1, t, lent, 12), DALY_NO_ROOM) && refused(daly_write_status(1, st, lent, 12), DALY_NO_ROOM),
+         "records to be written: no room");
+}
+
+static void written_lists(void)
+{
+    const uint16_t cells[256] = {3301, 3298, 3302, 3297};
+    test(wrote(daly_write_cell_voltages(1, cells, 4, lent, 26), 2, 0x95,
+               (const uint8_t[][8]){{1, 0x0C, 0xE5, 0x0C, 0xE2, 0x0C, 0xE6, 0}, {2, 0x0C, 0xE1, 0, 0, 0, 0, 0}}),
+         "daly_write_cell_voltages");
+    test(refused(daly_write_cell_voltages(1, cells, 4, lent, 25), DALY_NO_ROOM), "daly_write_cell_voltages: no room");
+    test(refused(daly_write_cell_voltages(1, cells, 256, lent, 0), DALY_COUNT_TOO_LARGE), "daly_write_cell_voltages: 256 cells, and no room");
+    test(refused(daly_write_cell_voltages(1, cells, 0, lent, 0), DALY_DONE), "daly_write_cell_voltages: no cells are no bytes");
+    struct daly_list l = daly_write_cell_voltages(1, cells, DALY_CELLS, lent, DALY_FRAMES);
+    test(l.number == DALY_DONE && l.count == DALY_FRAMES && lent[DALY_FRAMES] == 0x5A, "daly_write_cell_voltages: the most");
+    memset(lent, 0x5A, sizeof lent);
+
+    int32_t degrees[256] = {25, -40, 215};
+    test(wrote(daly_write_cell_temperatures(1, degrees, 3, lent, 14), 1, 0x96, (const uint8_t[][8]){{1, 65, 0, 255, 0, 0, 0, 0}}),
+         "daly_write_cell_temperatures");
+    degrees[2] = 216;
+    test(refused(daly_write_cell_temperatures(1, degrees, 255, lent, 0), DALY_VALUE_OUT_OF_RANGE), "daly_write_cell_temperatures: 216, and no room");
+    test(refused(daly_write_cell_temperatures(1, degrees, 256, lent, 0), DALY_COUNT_TOO_LARGE), "daly_write_cell_temperatures: 256 sensors, and 216");
+
+    const bool flags[49] = {true, false, true, [47] = true};
+    test(wrote(daly_write_cell_balance_state(1, flags, 48, lent, 14), 1, 0x97, (const uint8_t[][8]){{0x05, 0, 0, 0, 0, 0x80, 0, 0}}),
+         "daly_write_cell_balance_state");
+    test(refused(daly_write_cell_balance_state(1, flags, 0, lent, 14), DALY_VALUE_OUT_OF_RANGE) &&
+             refused(daly_write_cell_balance_state(1, flags, 49, lent, 0), DALY_VALUE_OUT_OF_RANGE),
+         "daly_write_cell_balance_state: no flag, and 49");
+
+    const bool faults[DALY_FAULTS] = {[17] = true, [27] = true, [28] = true, [47] = true};
+    test(wrote(daly_write_error_codes(1, faults, lent, 14), 1, 0x98, (const uint8_t[][8]){{0, 0, 0x02, 0x08, 0x01, 0, 0x08, 0}}), "daly_write_error_codes");
+    test(refused(daly_write_cell_temperatures(1, degrees, 2, lent, 12), DALY_NO_ROOM) && refused(daly_write_cell_balance_state(1, flags, 1, lent, 12), DALY_NO_ROOM) &&
+             refused(daly_write_error_codes(1, faults, lent, 12), DALY_NO_ROOM),
+         "lists to be written: no room");
+}
+
+static void written_acknowledgements(void)
+{
+    const uint8_t nothing[1][8] = {{0}};
+    test(wrote(daly_write_set_discharge_mosfet(1, lent, 13), 1, DALY_SET_DISCHARGE_MOSFET, nothing), "daly_write_set_discharge_mosfet");
+    test(wrote(daly_write_set_charge_mosfet(1, lent, 13), 1, DALY_SET_CHARGE_MOSFET, nothing), "daly_write_set_charge_mosfet");
+    test(wrote(daly_write_set_soc(1, lent, 13), 1, DALY_SET_SOC, nothing), "daly_write_set_soc");
+    test(refused(daly_write_set_discharge_mosfet(1, lent, 12), DALY_NO_ROOM) && refused(daly_write_set_charge_mosfet(1, lent, 12), DALY_NO_ROOM) &&
+             refused(daly_write_set_soc(1, lent, 12), DALY_NO_ROOM),
+         "acknowledgements to be written: no room");
+}
+
 int main(void)
 {
     requests_and_frames();
@@ -258,6 +357,10 @@ int main(void)
     lists();
     pack();
     reader();
+    memset(lent, 0x5A, sizeof lent);
+    written_records();
+    written_lists();
+    written_acknowledgements();
     printf("%d passed, %d failed\n", passed, failed);
     return failed != 0;
 }

@@ -1,8 +1,12 @@
 //! What `include/daly.h` declares, and calls of it that are safe for every argument.
 
 pub mod account;
+#[cfg(feature = "board")]
+pub mod board;
 mod reader;
 mod told;
+#[cfg(feature = "board")]
+mod wire;
 
 use crate::Error;
 use told::{CellVoltageRange, List, MosfetStatus, Soc, Status, TemperatureRange};

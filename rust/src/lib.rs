@@ -17,12 +17,13 @@
 //! ```
 //!
 //! The module [`account`] has what `dalybms_lib` has not: what became of every byte of the line, the board's
-//! own whole numbers, and whether the cells add up to their pack.
+//! own whole numbers, and whether the cells add up to their pack. With the feature `board` there is the module
+//! `board`, which writes replies as a board sends them, for a bench; only then `libwriters.a` is linked, too.
 //!
-//! All of it is done by calls into `libdaly.a`, of which every function is proved. Nothing is worked out
-//! here: answers are turned into the types above, and memory is lent. Build the archive by
-//! `rt staticlib daly`; it runs on x86-64 Linux. `DALY_LIB_DIR` names its folder, from where you stand, where
-//! that is not `../target/staticlib` beside this crate.
+//! All of it is done by calls into `libdaly.a` and `libwriters.a`, of which every function is proved. Nothing is
+//! worked out here: answers are turned into the types above, and memory is lent. Build the archives by
+//! `rt staticlib daly`, and for the feature `board` also `rt staticlib writers`; they run on x86-64 Linux.
+//! `DALY_LIB_DIR` names their folder, from where you stand, where that is not `../target/staticlib` beside this crate.
 //!
 //! # Where it parts from `dalybms_lib`
 //!
@@ -47,6 +48,8 @@
 #![deny(unsafe_op_in_unsafe_fn)]
 
 pub mod account;
+#[cfg(feature = "board")]
+pub mod board;
 mod error;
 mod ffi;
 pub mod protocol;

@@ -79,10 +79,12 @@ class OnTerminal(Running):
             os.close(self.port)
 
     def reopen(self):
-        """After a while in which nobody has the port. A fault where it is gone then."""
+        """After a while in which nobody has the port. A fault where it is gone then: its path may soon be another's."""
         self.close()
         self.port = None
         time.sleep(0.05)
+        if self.ran.poll() is not None:
+            return f"{self.path}: the board has ended"
         try:
             self.port = os.open(self.path, os.O_RDWR | os.O_NOCTTY)
         except OSError as gone:

@@ -23,6 +23,8 @@ mod trial;
 mod writers;
 
 use std::process::ExitCode;
+use std::sync::atomic::{AtomicUsize, Ordering};
+use std::thread;
 use trial::{Outcome, Part};
 
 struct Options {
@@ -61,10 +63,31 @@ fn options() -> Result<Options, String> {
 
 /// Both halves at once, on a thread each.
 fn all_patterns(seed: u64) -> Vec<bool> {
-    std::thread::scope(|scope| {
+    thread::scope(|scope| {
         let halves = set_soc::ALL_PATTERNS.map(|half| scope.spawn(move || half.full(seed).passed));
         halves.map(|half| half.join().unwrap_or(false)).to_vec()
     })
+}
+
+/// What each part comes to, in their order. All cores take parts; each part has a seed of its own, so its cases depend
+/// neither on the parts before it nor on the number of cores.
+fn on_all_cores<T: Send>(seed: u64, parts: &[Part], run: fn(&Part, u64) -> T) -> Vec<T> {
+    let next = AtomicUsize::new(0);
+    let worker = || {
+        let taken = std::iter::repeat_with(|| next.fetch_add(1, Ordering::Relaxed));
+        taken
+            .map_while(|index| Some((index, parts.get(index)?)))
+            .map(|(index, part)| (index, run(part, seed.wrapping_add(index as u64))))
+            .collect::<Vec<_>>()
+    };
+    let cores = thread::available_parallelism().map_or(1, |cores| cores.get());
+    let mut done: Vec<(usize, T)> = thread::scope(|scope| {
+        let threads: Vec<_> = (0..cores).map(|_| scope.spawn(worker)).collect();
+        let ends = threads.into_iter().map(|thread| thread.join());
+        ends.flat_map(|end| end.expect("no part panics")).collect()
+    });
+    done.sort_by_key(|(index, _)| *index);
+    done.into_iter().map(|(_, answer)| answer).collect()
 }
 
 fn run(options: &Options) -> Vec<bool> {
@@ -83,19 +106,13 @@ fn run(options: &Options) -> Vec<bool> {
         &writers::parts(),
     ]
     .concat();
-    // A seed for each part, so that no part's cases depend on those before it.
-    let seeded = || {
-        (0..)
-            .map(|index| options.seed.wrapping_add(index))
-            .zip(&parts)
-    };
     if options.small {
-        return seeded().map(|(seed, part)| part.small(seed)).collect();
+        return on_all_cores(options.seed, &parts, Part::small);
     }
-    let outcomes: Vec<Outcome> = seeded().map(|(seed, part)| part.full(seed)).collect();
+    let outcomes: Vec<Outcome> = on_all_cores(options.seed, &parts, Part::full);
     let mut passed: Vec<bool> = outcomes.iter().map(|outcome| outcome.passed).collect();
     passed.push(reader::enough(&outcomes));
-    passed.extend(seeded().map(|(seed, part)| part.notices(seed)));
+    passed.extend(on_all_cores(options.seed, &parts, Part::notices));
     if options.all_patterns {
         passed.extend(all_patterns(options.seed));
     }

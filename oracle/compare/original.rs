@@ -5,12 +5,15 @@ use crate::told::*;
 use dalybms_lib::protocol::*;
 use dalybms_lib::Error;
 use std::panic::{self, UnwindSafe};
+use std::sync::Mutex;
 
 /// Document 01's number of a command that no request has.
 const UNKNOWN_COMMAND: u8 = 10;
 
-/// `None` where the Rust panics, without its message.
+/// `None` where the Rust panics, without its message. All threads have one hook, so one asks at a time.
 pub fn quiet<T>(ask: impl FnOnce() -> T + UnwindSafe) -> Option<T> {
+    static HOOK: Mutex<()> = Mutex::new(());
+    let _alone = HOOK.lock();
     let hook = panic::take_hook();
     panic::set_hook(Box::new(|_| {}));
     let answer = panic::catch_unwind(ask).ok();

@@ -48,7 +48,7 @@ impl CellVoltageRangeCounts {
     pub fn decode(rx_buffer: &[u8]) -> CellVoltageRangeCountsAnswer
         ensures { λ r. ⌜ r ≡ decodedCellVoltageRangeCounts (now («rx_buffer» .entry)) ⌝ }
     {
-        match frame::frame_check(rx_buffer, frame::command::CELL_VOLTAGE_RANGE) {
+        match frame::reply_check(rx_buffer, frame::command::CELL_VOLTAGE_RANGE) {
             Check::Refused(refusal) => CellVoltageRangeCountsAnswer::CellVoltageRangeCountsRefused(
                 refusal,
             ),

@@ -7,6 +7,7 @@ use lib.IntN.{ℤ, pos, negℤ}
 use lib.Ieee.{Float, nan, binary32, ofBits, ofInt, div}
 use lib.ListN.{replicate}
 use Rattle.frame.specs.declared.Refusal.the-variants.{ReplySizeError, CheckSumError, UnknownMode, NoRoom, CountTooLarge}
+use Rattle.frame.specs.declared.FrameKind.the-variants.{FromBoard, Echo, Unsound}
 use Rattle.frame.specs.Frame.{total, sum, summed, frame}
 use Rattle.frame.specs.Checks.{sumOf, lenCheck, headerCheck, checksumCheck, frameCheck}
 use Rattle.request.specs.Requests.{setSocRequest}
@@ -21,6 +22,7 @@ use Rattle.mosfet_status.specs.declared.MosfetStatusCountsAnswer.the-variants.{
 use Rattle.status.specs.declared.StatusAnswer.the-variants.{StatusGiven, StatusRefused}
 use Rattle.list.specs.declared.Listed.the-variants.{Stored, NotStored}
 use Rattle.pack.specs.declared.PackAnswer.the-variants.{PackChecked, PackRefused}
+use Rattle.daly.specs.Kinds.{frameKindTold}
 use Rattle.daly.specs.Readings.{socTold, socCountsTold, cellVoltageRangeTold, cellVoltageRangeCountsTold, temperatureRangeTold, mosfetStatusTold, mosfetStatusCountsTold, statusTold}
 use Rattle.daly.specs.Lists.{TellsVoltages, TellsMillivolts, TellsTemperatures, TellsBalance, TellsFaults, TellsCollected}
 use Rattle.daly.specs.Packs.{packTold}
@@ -44,6 +46,14 @@ percent = ofBits binary32 0x42AE_CCCD
 
 abbrev none : Float
 none = ofBits binary32 0
+
+-- both sound kinds are 0, and one of them is an echo; no unsound frame is one
+kinds-told :
+    (frameKindTold FromBoard ≡ record { number = 0; echo = false })
+    × (frameKindTold Echo ≡ record { number = 0; echo = true })
+    × (frameKindTold (Unsound CheckSumError) ≡ record { number = 3; echo = false })
+    × (frameKindTold (Unsound ReplySizeError) ≡ record { number = 1; echo = false })
+kinds-told = (refl, refl, refl, refl)
 
 soc-told :
     (socTold (SocGiven record { «total_voltage» = volts; current = amperes; «soc_percent» = percent })

@@ -8,6 +8,7 @@ use Rattle.reader.proofs.Turn.Laws as Turn
 use Rattle.reader.proofs.Missing.Laws as Missing
 use Rattle.reader.proofs.Completed.Laws as Completed
 use Rattle.list.proofs.ListTold.Laws as ListTold
+use Rattle.daly.proofs.FrameKindTold.Laws as FrameKindTold
 use Rattle.daly.proofs.packs.PackTold.Laws as PackTold
 use Rattle.daly.proofs.readings.SocTold.Laws as SocTold
 use Rattle.daly.proofs.readings.SocCountsTold.Laws as SocCountsTold
@@ -18,7 +19,10 @@ use Rattle.daly.proofs.readings.MosfetStatusTold.Laws as MosfetStatusTo
 use Rattle.daly.proofs.readings.MosfetStatusCountsTold.Laws as MosfetStatusCountsTold
 use Rattle.daly.proofs.readings.StatusTold.Laws as StatusTold
 
-counts : layout Counts.mir ≡ 40 ∷ 0 ∷ 1 ∷ 4 ∷ 8 ∷ 12 ∷ 16 ∷ 24 ∷ 32 ∷ []
+frame-kind : layout FrameKindTold.mir ≡ 2 ∷ 0 ∷ 1 ∷ []
+frame-kind = refl
+
+counts : layout Counts.mir ≡ 40 ∷ 0 ∷ 1 ∷ 2 ∷ 4 ∷ 8 ∷ 12 ∷ 16 ∷ 24 ∷ 32 ∷ []
 counts = refl
 
 reader : layout FrameReader.mir ≡ 1152 ∷ 0 ∷ 40 ∷ []

@@ -1,8 +1,10 @@
 // The library for controllers: what C calls, on numbers and byte slices. A `&[u8]` is a pointer and then a length.
 ghost use mathlib.Core.Path.{_≡_};
 ghost use Rattle.frame.specs.Refusals.{checkNumber};
-ghost use Rattle.frame.specs.Checks.{sumOf, frameCheck, partCheck};
+ghost use Rattle.frame.specs.Checks.{sumOf, frameKind, partCheck};
+ghost use Rattle.daly.specs.Kinds.{frameKindTold};
 ghost use Rattle.daly.specs.Requests.{Requests};
+use frame::FrameKind;
 
 mod lists;
 mod packs;
@@ -16,11 +18,31 @@ pub extern "C" fn daly_calc_crc(buffer: &[u8]) -> u8
     frame::calc_crc(buffer)
 }
 
+// 0, or why a frame is not sound; and whether a sound one is an echo.
+#[repr(C)]
+pub struct FrameKindTold {
+    pub number: u8,
+    pub echo: bool,
+}
+
 #[no_mangle]
-pub extern "C" fn daly_frame_check(buffer: &[u8], command: u8) -> u8
-    ensures { λ r. ⌜ r ≡ checkNumber (frameCheck command (now (buffer .entry))) ⌝ }
+pub extern "C" fn daly_frame_check(buffer: &[u8], command: u8) -> FrameKindTold
+    ensures { λ r. ⌜ r ≡ frameKindTold (frameKind command (now (buffer .entry))) ⌝ }
 {
-    frame::frame_check(buffer, command).number()
+    match frame::frame_check(buffer, command) {
+        FrameKind::FromBoard => FrameKindTold {
+            number: 0,
+            echo: false,
+        },
+        FrameKind::Echo => FrameKindTold {
+            number: 0,
+            echo: true,
+        },
+        FrameKind::Unsound(refusal) => FrameKindTold {
+            number: refusal.number(),
+            echo: false,
+        },
+    }
 }
 
 #[no_mangle]

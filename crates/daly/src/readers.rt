@@ -18,10 +18,15 @@ use reader::turn_into;
 
 // A new reader, into the caller's: its numbers, and an array of zeros. It answers 0, 7 or 6.
 #[no_mangle]
-pub extern "C" fn daly_reader_new(reader: &mut FrameReader, request: &[u8], reply_size: usize) -> u8
-    ensures { λ r. ⌜ OpenedLent (now (request .entry)) «reply_size» r (now (reader .exit)) ⌝ }
+pub extern "C" fn daly_reader_new(
+    reader: &mut FrameReader,
+    request: &[u8],
+    reply_size: usize,
+    strict: bool,
+) -> u8
+    ensures { λ r. ⌜ OpenedLent (now (request .entry)) «reply_size» strict r (now (reader .exit)) ⌝ }
 {
-    let o = open_counts(request, reply_size);
+    let o = open_counts(request, reply_size, strict);
     reader.counts = o.counts;
     reader.frames = [0u8; 1105];
     o.number

@@ -23,7 +23,7 @@ fn one_frame_check(reply: &[u8], command: u8, places: usize, room: usize) -> Che
     if room < places {
         return Check::Refused(Refusal::NoRoom);
     }
-    frame::frame_check(reply, command)
+    frame::reply_check(reply, command)
 }
 
 // One flag at least, and 48 at most.

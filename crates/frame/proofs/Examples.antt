@@ -5,8 +5,9 @@ use mathlib.Core.List.{List, [], _∷_, map}
 use lib.ListN.{replicate}
 use Rattle.frame.specs.declared.Refusal.the-variants.{ReplySizeError, UnexpectedFrame, CheckSumError, FrameNoError, UnknownMode, ReplyTooLong, RequestTooShort, BadState, NoRoom, UnknownCommand, CountTooLarge, ValueOutOfRange}
 use Rattle.frame.specs.Frame.{sum, total}
-use Rattle.frame.specs.Refusals.{refusalNumber, checkNumber}
-use Rattle.frame.specs.Checks.{sumOf, headerCheck, checksumCheck, framePart, partCheck}
+use Rattle.frame.specs.declared.FrameKind.the-variants.{FromBoard, Echo, Unsound}
+use Rattle.frame.specs.Refusals.{refusalNumber, checkNumber, kindNumber}
+use Rattle.frame.specs.Checks.{sumOf, lenCheck, headerCheck, checksumCheck, frameCheck, frameKind, framePart, partCheck}
 
 -- document 01's table of refusals, and document 02's 12
 numbers :
@@ -51,3 +52,21 @@ headers = refl
 sums-checked : map (λ (s : List ℕ). checkNumber (checksumCheck s)) ([] ∷ (0 ∷ []) ∷ (1 ∷ []) ∷ (7 ∷ 7 ∷ []) ∷ (7 ∷ 8 ∷ []) ∷ []) ≡ 1 ∷ 0 ∷ 3 ∷ 0 ∷ 3 ∷ []
 unfolding checksumCheck sumOf sum total
 sums-checked = refl
+
+-- "a sound frame from another sender, a sound frame with address 40, an unsound one (still 2 or 3)": document 01's frame, and one from 41; our
+-- own 90 question, and with a byte more; the question with a wrong sum, asked as a 91, cut short
+abbrev question : List ℕ
+question = 0xA5 ∷ 0x40 ∷ 0x90 ∷ 0x08 ∷ 0 ∷ 0 ∷ 0 ∷ 0 ∷ 0 ∷ 0 ∷ 0 ∷ 0 ∷ 0x7D ∷ []
+
+kinds : (frameKind 0x90 (0xA5 ∷ 0x01 ∷ 0x90 ∷ 0x08 ∷ 0x02 ∷ 0x0B ∷ 0x00 ∷ 0x00 ∷ 0x74 ∷ 0xB7 ∷ 0x03 ∷ 0x6A ∷ 0xE3 ∷ []) ≡ FromBoard)
+    × (frameKind 0x90 (0xA5 ∷ 0x41 ∷ 0x90 ∷ 0x08 ∷ 0x40 ∷ 0 ∷ 0 ∷ 0 ∷ 0 ∷ 0 ∷ 0 ∷ 0 ∷ 0xBE ∷ []) ≡ FromBoard)
+    × (frameKind 0x90 question ≡ Echo)
+    × (frameKind 0x90 (0xA5 ∷ 0x40 ∷ 0x90 ∷ 0x08 ∷ 0 ∷ 0 ∷ 0 ∷ 0 ∷ 0 ∷ 0 ∷ 0 ∷ 0 ∷ 0 ∷ 0x7D ∷ []) ≡ Echo)
+    × (frameKind 0x90 (0xA5 ∷ 0x40 ∷ 0x90 ∷ 0x08 ∷ 0 ∷ 0 ∷ 0 ∷ 0 ∷ 0 ∷ 0 ∷ 0 ∷ 0 ∷ 0x7E ∷ []) ≡ Unsound CheckSumError)
+    × (frameKind 0x91 question ≡ Unsound UnexpectedFrame)
+    × (frameKind 0x90 (0xA5 ∷ 0x40 ∷ 0x90 ∷ 0x08 ∷ 0 ∷ 0 ∷ 0 ∷ 0 ∷ 0 ∷ 0 ∷ 0 ∷ 0x7D ∷ []) ≡ Unsound ReplySizeError)
+unfolding frameCheck lenCheck headerCheck checksumCheck sumOf sum total
+kinds = (refl, refl, refl, refl, refl, refl, refl)
+
+kind-numbers : map kindNumber (FromBoard ∷ Echo ∷ Unsound ReplySizeError ∷ Unsound UnexpectedFrame ∷ Unsound CheckSumError ∷ []) ≡ 0 ∷ 0 ∷ 1 ∷ 2 ∷ 3 ∷ []
+kind-numbers = refl

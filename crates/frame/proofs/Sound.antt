@@ -35,6 +35,10 @@ module _ (address command : ℕ) (d : List ℕ) (h : length d ≡ 8) where
   unfolding frame summed
   frame-head = (refl, refl)
 
+  pub frame-address : byteAt (frame address command d) 1 ≡ address
+  unfolding frame summed
+  frame-address = refl
+
   -- byte j of the data
   pub frame-data : (j : ℕ) → j < 8 → byteAt (frame address command d) (4 + j) ≡ getD d j 0
   unfolding frame summed

@@ -55,7 +55,7 @@ fn mode_of(byte: u8) -> MosfetMode
 fn mosfet_check(rx_buffer: &[u8]) -> Check
     ensures { λ r. ⌜ r ≡ mosfetCheck (now («rx_buffer» .entry)) ⌝ }
 {
-    let checked = frame::frame_check(rx_buffer, frame::command::MOSFET_STATUS);
+    let checked = frame::reply_check(rx_buffer, frame::command::MOSFET_STATUS);
     let Check::Sound = checked else {
         return checked;
     };

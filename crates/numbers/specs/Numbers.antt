@@ -49,7 +49,7 @@ told a =
     }
 
 abbrev pub read : ℕ → ℕ → List ℕ → Told
-read command wanted stream = told (answer (fresh record { command = command; wanted = wanted }) stream)
+read command wanted stream = told (answer (fresh record { command = command; wanted = wanted; strict = false }) stream)
 
 abbrev pub weighed : ℤ → Bool → PackAnswer
 weighed difference agrees = PackChecked record { difference = difference; agrees = agrees }

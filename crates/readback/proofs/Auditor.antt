@@ -1,8 +1,8 @@
 -- What an auditor reads off the two promises (`read-back` and `met` prove them): frames byte by byte with what they are decoded to, what a decoder
 -- of lists then answers and leaves, and that the reader meets every reply by its name. It uses every condition, so that a weaker promise fails here.
 use Prim.Native.Nat.{ℕ, _*_, _≤_}
-use mathlib.Core.Path.{_≡_, refl}
-use mathlib.Core.Bool.{Bool, true, false}
+use mathlib.Core.Path.{_≡_, refl, sym}
+use mathlib.Core.Bool.{Bool, true, false, true≢false}
 use mathlib.Core.List.{List, [], _∷_, _++_, map}
 use native.Mathlib.Omega.{arith}
 use lib.IntN.{ℤ, pos, negsuc}
@@ -47,7 +47,7 @@ use Rattle.writing_lists.specs.Numbered.{numberedFrame, numberedReply}
 use Rattle.writing_lists.specs.Replies.{cellBytes, degreeByte, allFit, cellsReply, sensorsReply}
 use Rattle.readback.specs.Meant.{mosfetStatusMeant}
 use Rattle.readback.specs.ReadBack.{ReadBack}
-use Rattle.readback.specs.Met.{Met, Meets, ReaderMeets}
+use Rattle.readback.specs.Met.{Heard, Met, Meets, ReaderMeets}
 
 -- ---- frames, byte by byte, and what they are decoded to
 
@@ -175,56 +175,60 @@ read-met : (frames : List (List ℕ)) (a : Answer) → Met frames a
     × (a .reader .held ≡ []) × (a .reader .discarded ≡ 0) × (a .reader .cleared ≡ 0) × (a .status ≡ 0)
 read-met frames a m = (m .complete, m .collected, m .taken, m .held, m .discarded, m .cleared, m .status)
 
--- document 01's example in three pieces, with two bytes behind it
+-- document 01's example in three pieces, with two bytes behind it, into a strict reader: its address is 01
 read-cut : ReaderMeets
     → Met (frame90 ∷ [])
-    (answers (fresh record { command = 0x90; wanted = 1 }) (0xA5 ∷ [])
+    (answers (fresh record { command = 0x90; wanted = 1; strict = true }) (0xA5 ∷ [])
     ((0x01 ∷ 0x90 ∷ 0x08 ∷ 0x02 ∷ 0x0B ∷ 0x00 ∷ []) ∷ (0x00 ∷ 0x74 ∷ 0xB7 ∷ 0x03 ∷ 0x6A ∷ 0xE3 ∷ 7 ∷ 8 ∷ []) ∷ []))
 unfolding joined frame summed sum total
 read-cut meets =
-    meets .one 1 0x90 (0x02 ∷ 0x0B ∷ 0x00 ∷ 0x00 ∷ 0x74 ∷ 0xB7 ∷ 0x03 ∷ 0x6A ∷ []) refl (7 ∷ 8 ∷ [])
+    meets .one true 1 0x90 (0x02 ∷ 0x0B ∷ 0x00 ∷ 0x00 ∷ 0x74 ∷ 0xB7 ∷ 0x03 ∷ 0x6A ∷ []) (λ s e. absurd (omega (arith, e))) refl (7 ∷ 8 ∷ [])
     (0xA5 ∷ []) ((0x01 ∷ 0x90 ∷ 0x08 ∷ 0x02 ∷ 0x0B ∷ 0x00 ∷ []) ∷ (0x00 ∷ 0x74 ∷ 0xB7 ∷ 0x03 ∷ 0x6A ∷ 0xE3 ∷ 7 ∷ 8 ∷ []) ∷ []) refl
 
 -- a reply of no frames: a reader that wants none has none, and takes nothing of what comes
-read-empty : ReaderMeets → Met [] (answers (fresh record { command = 0x95; wanted = 0 }) (0xA5 ∷ 1 ∷ []) [])
+read-empty : ReaderMeets → Met [] (answers (fresh record { command = 0x95; wanted = 0; strict = false }) (0xA5 ∷ 1 ∷ []) [])
 unfolding numberedReply joined
-read-empty meets = meets .numbered 1 0x95 6 [] 0 (omega arith) (0xA5 ∷ 1 ∷ []) (0xA5 ∷ 1 ∷ []) [] refl
+read-empty meets = meets .numbered false 1 0x95 6 [] 0 (λ s e. absurd (omega (arith, e))) (omega arith) (0xA5 ∷ 1 ∷ []) (0xA5 ∷ 1 ∷ []) [] refl
 
 -- 0 to 85 numbered frames, and no more
-read-numbered : ReaderMeets → (address command many : ℕ) (bytes : List ℕ) (n : ℕ) → n ≤ 85
-    → Meets command (firsts (numberedFrame address command many bytes) n) (numberedReply address command many bytes n)
-read-numbered meets address command many bytes n h = meets .numbered address command many bytes n h
+read-numbered : ReaderMeets → (strict : Bool) (address command many : ℕ) (bytes : List ℕ) (n : ℕ) → Heard strict address → n ≤ 85
+    → Meets strict command (firsts (numberedFrame address command many bytes) n) (numberedReply address command many bytes n)
+read-numbered meets strict address command many bytes n a h = meets .numbered strict address command many bytes n a h
 
 -- a reply of one frame is met
-abbrev MeetsOne : ℕ → List ℕ → Type 0
-MeetsOne command reply = Meets command (reply ∷ []) reply
+abbrev MeetsOne : Bool → ℕ → List ℕ → Type 0
+MeetsOne strict command reply = Meets strict command (reply ∷ []) reply
+
+-- a reader that is not strict hears every address, our own too
+read-any : ReaderMeets → (address command : ℕ) → MeetsOne false command (acknowledgement address command)
+read-any meets address command = meets .one false address command _ (λ s e. true≢false (sym s)) refl
 
 -- every reply, by its name
-read-every : ReaderMeets → (address : ℕ)
-    → ((k : SocWire) → MeetsOne 0x90 (socReply address k))
-    × ((k : CellVoltageRangeCounts) → MeetsOne 0x91 (cellVoltageRangeReply address k))
-    × ((k : TemperatureRange) → MeetsOne 0x92 (temperatureRangeReply address k))
-    × ((k : MosfetStatusWire) → MeetsOne 0x93 (mosfetStatusReply address k))
-    × ((k : Status) → MeetsOne 0x94 (statusReply address k))
-    × ((flags : List Bool) → MeetsOne 0x97 (balanceReply address flags))
-    × ((flags : List Bool) → MeetsOne 0x98 (faultsReply address flags))
-    × ((command : ℕ) → MeetsOne command (acknowledgement address command))
-read-every meets address = (
-  (λ k. meets .one address 0x90 _ refl),
-  (λ k. meets .one address 0x91 _ refl),
-  (λ k. meets .one address 0x92 _ refl),
-  (λ k. meets .one address 0x93 _ refl),
-  (λ k. meets .one address 0x94 _ refl),
-  (λ flags. meets .one address 0x97 _ refl),
-  (λ flags. meets .one address 0x98 _ refl),
-  (λ command. meets .one address command _ refl),
+read-every : ReaderMeets → (strict : Bool) (address : ℕ) → Heard strict address
+    → ((k : SocWire) → MeetsOne strict 0x90 (socReply address k))
+    × ((k : CellVoltageRangeCounts) → MeetsOne strict 0x91 (cellVoltageRangeReply address k))
+    × ((k : TemperatureRange) → MeetsOne strict 0x92 (temperatureRangeReply address k))
+    × ((k : MosfetStatusWire) → MeetsOne strict 0x93 (mosfetStatusReply address k))
+    × ((k : Status) → MeetsOne strict 0x94 (statusReply address k))
+    × ((flags : List Bool) → MeetsOne strict 0x97 (balanceReply address flags))
+    × ((flags : List Bool) → MeetsOne strict 0x98 (faultsReply address flags))
+    × ((command : ℕ) → MeetsOne strict command (acknowledgement address command))
+read-every meets strict address a = (
+  (λ k. meets .one strict address 0x90 _ a refl),
+  (λ k. meets .one strict address 0x91 _ a refl),
+  (λ k. meets .one strict address 0x92 _ a refl),
+  (λ k. meets .one strict address 0x93 _ a refl),
+  (λ k. meets .one strict address 0x94 _ a refl),
+  (λ flags. meets .one strict address 0x97 _ a refl),
+  (λ flags. meets .one strict address 0x98 _ a refl),
+  (λ command. meets .one strict address command _ a refl),
 )
 
 -- lists of up to 255 values, 85 frames of cells and 37 of sensors
-read-lists : ReaderMeets → (address : ℕ)
-    → ((cells : List ℕ) → length cells ≤ 255 → Meets 0x95 (firsts (numberedFrame address 0x95 6 (cellBytes cells)) (framesFor 3 (length cells))) (cellsReply address cells))
-    × ((degrees : List ℤ) → length degrees ≤ 255 → Meets 0x96 (firsts (numberedFrame address 0x96 7 (map degreeByte degrees)) (framesFor 7 (length degrees))) (sensorsReply address degrees))
-read-lists meets address = (
-  (λ cells h. meets .numbered address 0x95 6 (cellBytes cells) (framesFor 3 (length cells)) (omega (arith, h))),
-  (λ degrees h. meets .numbered address 0x96 7 (map degreeByte degrees) (framesFor 7 (length degrees)) (omega (arith, h))),
+read-lists : ReaderMeets → (strict : Bool) (address : ℕ) → Heard strict address
+    → ((cells : List ℕ) → length cells ≤ 255 → Meets strict 0x95 (firsts (numberedFrame address 0x95 6 (cellBytes cells)) (framesFor 3 (length cells))) (cellsReply address cells))
+    × ((degrees : List ℤ) → length degrees ≤ 255 → Meets strict 0x96 (firsts (numberedFrame address 0x96 7 (map degreeByte degrees)) (framesFor 7 (length degrees))) (sensorsReply address degrees))
+read-lists meets strict address a = (
+  (λ cells h. meets .numbered strict address 0x95 6 (cellBytes cells) (framesFor 3 (length cells)) a (omega (arith, h))),
+  (λ degrees h. meets .numbered strict address 0x96 7 (map degreeByte degrees) (framesFor 7 (length degrees)) a (omega (arith, h))),
 )

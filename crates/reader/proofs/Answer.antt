@@ -57,6 +57,7 @@ module _ (f : List ℕ) (c : Counts) (s f′ : List ℕ) (m : Moved) (mark : Boo
       record {
         command = c .command;
         mark = mark;
+        strict = c .strict;
         taken = taken;
         discarded = discarded;
         cleared = m .cleared;
@@ -66,13 +67,13 @@ module _ (f : List ℕ) (c : Counts) (s f′ : List ℕ) (m : Moved) (mark : Boo
       }
 
   pub answered : bad (view c f) ≡ false
-      → Moves (config (c .command) (c .wanted)) (run (config (c .command) (c .wanted)) (chop (c .collected) f) (front (c .held) (drop (13 * c .collected) f) ++ s)) (c .cleared) s f′ m
+      → Moves (config (c .command) (c .wanted) (c .strict)) (run (config (c .command) (c .wanted) (c .strict)) (chop (c .collected) f) (front (c .held) (drop (13 * c .collected) f) ++ s)) (c .cleared) s f′ m
       → mark ≡ (c .mark || ltb 512 (c .discarded + m .lost)) → taken ≡ (c .taken + m .took) % 4294967296
       → discarded ≡ (c .discarded + m .lost) % 4294967296 → st ≡ (if mark then 2 else 0)
       → Answered f c s st (m .took) After f′
   unfolding answer push did booked view status
   answered e v o t d k =
-      let g : Config = config (c .command) (c .wanted) in
+      let g : Config = config (c .command) (c .wanted) (c .strict) in
       let u : Outcome = run g (chop (c .collected) f) (front (c .held) (drop (13 * c .collected) f) ++ s) in
       let to : taken ≡ wrap (c .taken + took g u s) = t ∙ (let q : m .took ≡ took g u s = v .took in omega arith) in
       let do′ : discarded ≡ wrap (c .discarded + discards (u .ledger)) = d ∙ (let q : m .lost ≡ discards (u .ledger) = v .lost in omega arith) in

@@ -44,11 +44,11 @@ module _ (c : Counts) (f : List ℕ) (n : ℕ) (e : n ≡ stateNumber (view c f)
 
     pub missing-complete : c .wanted ≤ c .collected → _≡_ {A = Missing} (record { number = 0; missing = 0 }) (missingTold (view c f))
     unfolding missing view
-    missing-complete h = rw (good, is-complete (config (c .command) (c .wanted)) (c .collected) f h)
+    missing-complete h = rw (good, is-complete (config (c .command) (c .wanted) (c .strict)) (c .collected) f h)
 
     pub missing-open : c .collected < c .wanted → _≡_ {A = Missing} (record { number = 0; missing = 13 - c .held }) (missingTold (view c f))
     unfolding missing view
-    missing-open h = rw (good, is-open (config (c .command) (c .wanted)) (c .collected) f h, length-front)
+    missing-open h = rw (good, is-open (config (c .command) (c .wanted) (c .strict)) (c .collected) f h, length-front)
 
     pub complete-is : _≡_ {A = Completed} (record { number = 0; complete = leb (c .wanted) (c .collected) }) (completeTold (view c f))
     unfolding completeness complete view

@@ -19,24 +19,29 @@ abbrev request : List ℕ
 request = 0xA5 ∷ 0x40 ∷ 0x95 ∷ []
 
 -- 1,105 places, and all of them 0
-zeros : (length (freshReader 0x95 3 .frames) ≡ 1105) × (total (freshReader 0x95 3 .frames) ≡ 0)
+zeros : (length (freshReader 0x95 3 true .frames) ≡ 1105) × (total (freshReader 0x95 3 true .frames) ≡ 0)
 unfolding total
 zeros = (refl, refl)
 
 -- "n = ceil(size/13)"; a refused reader wants no frame and has no command: 7 before 6
-new : (opened request 14 .reader .counts ≡ freshCounts 0x95 2) × (opened request 14 .number ≡ 0)
-    × (opened request 1106 .reader .counts ≡ freshCounts 0 0) × (opened request 1106 .number ≡ 6)
-    × (opened (0xA5 ∷ 0x40 ∷ []) 1106 .reader .counts ≡ freshCounts 0 0) × (opened (0xA5 ∷ 0x40 ∷ []) 1106 .number ≡ 7)
+new : (opened request 14 false .reader .counts ≡ freshCounts 0x95 2 false) × (opened request 14 false .number ≡ 0)
+    × (opened request 1106 false .reader .counts ≡ freshCounts 0 0 false) × (opened request 1106 false .number ≡ 6)
+    × (opened (0xA5 ∷ 0x40 ∷ []) 1106 false .reader .counts ≡ freshCounts 0 0 false) × (opened (0xA5 ∷ 0x40 ∷ []) 1106 false .number ≡ 7)
 new = (refl, refl, refl, refl, refl, refl)
 
+-- in strict mode the same reader with the mode; "A refused new reader is all zero", so it is not strict
+new-strict : (opened request 14 true .reader .counts ≡ freshCounts 0x95 2 true) × (opened request 14 true .number ≡ 0)
+    × (opened request 1106 true .reader .counts ≡ freshCounts 0 0 false) × (opened (0xA5 ∷ 0x40 ∷ []) 13 true .reader .counts ≡ freshCounts 0 0 false)
+new-strict = (refl, refl, refl, refl)
+
 -- the same without the array
-new-numbers : (openingOf request 14 ≡ record { number = 0; counts = freshCounts 0x95 2 }) × (openingOf request 1106 ≡ record { number = 6; counts = freshCounts 0 0 })
-    × (openingOf (0xA5 ∷ 0x40 ∷ []) 1106 ≡ record { number = 7; counts = freshCounts 0 0 })
-new-numbers = (refl, refl, refl)
+new-numbers : (openingOf request 14 false ≡ record { number = 0; counts = freshCounts 0x95 2 false }) × (openingOf request 14 true ≡ record { number = 0; counts = freshCounts 0x95 2 true })
+    × (openingOf request 1106 true ≡ record { number = 6; counts = freshCounts 0 0 false }) × (openingOf (0xA5 ∷ 0x40 ∷ []) 1106 true ≡ record { number = 7; counts = freshCounts 0 0 false })
+new-numbers = (refl, refl, refl, refl)
 
 -- one that has discarded 513 bytes and not its mark
 abbrev harmed : Counts
-harmed = record { command = 0x90; mark = false; taken = 513; discarded = 513; cleared = 0; wanted = 1; collected = 0; held = 0 }
+harmed = record { command = 0x90; mark = false; strict = false; taken = 513; discarded = 513; cleared = 0; wanted = 1; collected = 0; held = 0 }
 
 -- "`missing` then answers 0 and completeness no, both with 8"
 told : (missingTold (view harmed []) ≡ record { number = 8; missing = 0 }) × (completeTold (view harmed []) ≡ record { number = 8; complete = false })
@@ -44,16 +49,16 @@ unfolding view chop front bad complete missing completeness
 told = (refl, refl)
 
 -- a reader into which nothing was pushed
-fresh-numbers : freshCounts 0x95 3 ≡ record { command = 0x95; mark = false; taken = 0; discarded = 0; cleared = 0; wanted = 3; collected = 0; held = 0 }
+fresh-numbers : freshCounts 0x95 3 true ≡ record { command = 0x95; mark = false; strict = true; taken = 0; discarded = 0; cleared = 0; wanted = 3; collected = 0; held = 0 }
 fresh-numbers = refl
 
 -- the struct as the rules see it: each number in its place, two frames collected, three bytes held behind them, and one place more in the array
 abbrev halfway : Counts
-halfway = record { command = 0x95; mark = true; taken = 42; discarded = 1; cleared = 5; wanted = 3; collected = 2; held = 3 }
+halfway = record { command = 0x95; mark = true; strict = true; taken = 42; discarded = 1; cleared = 5; wanted = 3; collected = 2; held = 3 }
 
 viewed : view halfway (replicate 13 1 ++ replicate 13 2 ++ (0xA5 ∷ 4 ∷ 5 ∷ 6 ∷ []))
     ≡ record {
-      config = record { command = 0x95; wanted = 3 };
+      config = record { command = 0x95; wanted = 3; strict = true };
       collected = replicate 13 1 ∷ replicate 13 2 ∷ [];
       held = 0xA5 ∷ 4 ∷ 5 ∷ [];
       taken = 42;
@@ -74,7 +79,7 @@ unfolding front
 short = refl
 
 -- what the contract of a push says, read off: document 01's frame into a new reader, whatever its array holds
-pushed : (f : List ℕ) (st tk : ℕ) (c′ : Counts) (f′ : List ℕ) → Answered f (freshCounts 0x90 1) frame90 st tk c′ f′
+pushed : (f : List ℕ) (st tk : ℕ) (c′ : Counts) (f′ : List ℕ) → Answered f (freshCounts 0x90 1 false) frame90 st tk c′ f′
     → (st ≡ 0) × (tk ≡ 13) × (view c′ f′ ≡ answered c90 0 13 (frame90 ∷ []) [] 13 0 0 false .reader)
 unfolding view chop front answer bad status push did run turns look judge restarts sumRight sum total after drops stay booked counted complete heldOf untaken
 pushed f st tk c′ f′ a = (ap (λ (x : Answer). x .status) (a .by-rule), ap (λ (x : Answer). x .took) (a .by-rule), ap (λ (x : Answer). x .reader) (a .by-rule))

@@ -1,6 +1,6 @@
 -- The verdict on 13 bytes, from what the code tests. Assumes nothing.
 use mathlib.Core.Path.{_≡_, refl, sym, _∙_}
-use mathlib.Core.Bool.{Bool, true, false}
+use mathlib.Core.Bool.{Bool, true, false, _&&_}
 use mathlib.Core.List.{List, []}
 use Prim.Native.Nat.{ℕ, suc, _+_, _-_, _≤_, _<_}
 use native.Mathlib.Omega.{arith}
@@ -36,26 +36,31 @@ module _ (c : Config) (have : ℕ) (w : List ℕ) (whole : length w ≡ 13) wher
       ours : eqb (byteAt w 2) (c .command) ≡ true
       ours = eq-eqb _ _ k
 
-      pub due-one : c .wanted ≤ 1 → 0 ≡ lost (judge c have w)
+      pub due-echo : c .strict && eqb (byteAt w 1) 0x40 ≡ true → 13 ≡ lost (judge c have w)
       unfolding judge sumRight
-      due-one n = rw (right, ours, le-ltb 1 (c .wanted) n)
+      due-echo u = rw (right, ours, u)
 
-      module _ (n : 1 < c .wanted) where
-        pub due-first : byteAt w 4 ≡ 1 → 0 ≡ lost (judge c have w)
-        unfolding judge sumRight restarts
-        due-first m = rw (right, ours, lt-ltb 1 (c .wanted) n, m)
+      module _ (u : c .strict && eqb (byteAt w 1) 0x40 ≡ false) where
+        pub due-one : c .wanted ≤ 1 → 0 ≡ lost (judge c have w)
+        unfolding judge sumRight
+        due-one n = rw (right, ours, u, le-ltb 1 (c .wanted) n)
 
-        module _ (m : byteAt w 4 ≡ 1 → ⊥) where
-          other : eqb (byteAt w 4) 1 ≡ false
-          other = ne-eqb _ _ m
-
-          pub due-number : (byteAt w 4 ≡ have + 1 → ⊥) → 13 ≡ lost (judge c have w)
+        module _ (n : 1 < c .wanted) where
+          pub due-first : byteAt w 4 ≡ 1 → 0 ≡ lost (judge c have w)
           unfolding judge sumRight restarts
-          due-number o = rw (right, ours, lt-ltb 1 (c .wanted) n, other, ne-eqb (byteAt w 4) (suc have) (λ z. o (z ∙ sym (add-one have))))
+          due-first m = rw (right, ours, u, lt-ltb 1 (c .wanted) n, m)
 
-          pub due-place : byteAt w 4 ≡ have + 1 → 0 ≡ lost (judge c have w)
-          unfolding judge sumRight restarts
-          due-place o = rw (right, ours, lt-ltb 1 (c .wanted) n, other, eq-eqb (byteAt w 4) (suc have) (o ∙ add-one have))
+          module _ (m : byteAt w 4 ≡ 1 → ⊥) where
+            other : eqb (byteAt w 4) 1 ≡ false
+            other = ne-eqb _ _ m
+
+            pub due-number : (byteAt w 4 ≡ have + 1 → ⊥) → 13 ≡ lost (judge c have w)
+            unfolding judge sumRight restarts
+            due-number o = rw (right, ours, u, lt-ltb 1 (c .wanted) n, other, ne-eqb (byteAt w 4) (suc have) (λ z. o (z ∙ sym (add-one have))))
+
+            pub due-place : byteAt w 4 ≡ have + 1 → 0 ≡ lost (judge c have w)
+            unfolding judge sumRight restarts
+            due-place o = rw (right, ours, u, lt-ltb 1 (c .wanted) n, other, eq-eqb (byteAt w 4) (suc have) (o ∙ add-one have))
 
 -- what a verdict's number of discarded bytes says of it
 pub is-collected : (a : Fate) → 0 ≡ lost a → a ≡ collected
@@ -67,6 +72,7 @@ is-collected (discarded y) e = none-such y e
     none-such Why.wrongSum e = absurd (omega arith)
     none-such Why.wrongCommand e = absurd (omega arith)
     none-such Why.wrongNumber e = absurd (omega arith)
+    none-such Why.echo e = absurd (omega arith)
 
 pub is-discarded : (a : Fate) → (0 ≡ lost a → ⊥) → (y : Why) × (a ≡ discarded y)
 is-discarded collected e = absurd (e refl)
@@ -74,20 +80,20 @@ is-discarded (discarded y) e = (y, refl)
 
 -- how many frames stay
 module _ (n : ℕ) (w : List ℕ) (have : ℕ) where
-  pub stay-one : n ≤ 1 → have ≡ (if restarts (config 0 n) w then 0 else have)
+  pub stay-one : n ≤ 1 → have ≡ (if restarts (config 0 n false) w then 0 else have)
   unfolding restarts
   stay-one h = rw (le-ltb 1 n h)
 
-  pub stay-none : 1 < n → byteAt w 4 ≡ 1 → 0 ≡ (if restarts (config 0 n) w then 0 else have)
+  pub stay-none : 1 < n → byteAt w 4 ≡ 1 → 0 ≡ (if restarts (config 0 n false) w then 0 else have)
   unfolding restarts
   stay-none h e = rw (lt-ltb 1 n h, eq-eqb (byteAt w 4) 1 e)
 
-  pub stay-all : 1 < n → (byteAt w 4 ≡ 1 → ⊥) → have ≡ (if restarts (config 0 n) w then 0 else have)
+  pub stay-all : 1 < n → (byteAt w 4 ≡ 1 → ⊥) → have ≡ (if restarts (config 0 n false) w then 0 else have)
   unfolding restarts
   stay-all h e = rw (lt-ltb 1 n h, ne-eqb (byteAt w 4) 1 e)
 
 -- and what is cleared then
-pub stays : (c : Config) (w f : List ℕ) (have k : ℕ) → k ≡ (if restarts (config 0 (c .wanted)) w then 0 else have)
+pub stays : (c : Config) (w f : List ℕ) (have k : ℕ) → k ≡ (if restarts (config 0 (c .wanted) false) w then 0 else have)
     → (stay c w (chop have f) ≡ chop k f) × (drops c collected w (chop have f) ≡ have - k)
 unfolding stay drops chop restarts
 stays c w f have k e = go (restarts c w) e

@@ -55,6 +55,10 @@ chop-same (suc k) l m e =
 
 -- ---- copies
 
+-- 13 bytes by way of another array
+pub put-is : (w f s : List ℕ) (n a : ℕ) → a + 13 ≤ length s → paste f n (paste w 0 (drop a s) 13) 13 ≡ paste f n (drop a s) 13
+put-is w f s n a b = ap (λ (l : List ℕ). take n f ++ l ++ drop (n + 13) f) (take-paste w 0 (drop a s) 13 (omega arith) (omega (arith, length-drop a s)))
+
 -- the 13 bytes of s at `at`
 abbrev pub window : List ℕ → ℕ → List ℕ
 window s at = take 13 (drop at s)

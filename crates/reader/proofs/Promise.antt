@@ -60,6 +60,7 @@ module _ (c₁ : Counts) (f₁ : List ℕ) (c₂ : Counts) (f₂ : List ℕ) (se
       λ i. record {
         command = seen i .config .command;
         mark = seen i .mark;
+        strict = seen i .config .strict;
         taken = seen i .taken;
         discarded = seen i .discarded;
         cleared = seen i .cleared;
@@ -178,12 +179,12 @@ fed-answers s (t ∷ ts) c f st tk c′ f′ (c₁, f₁, st₁, tk₁, a, more)
     fed-answers t ts c₁ f₁ st tk c′ f′ more ∙ ap (λ (x : Answer). answers (x .reader) t ts) (a .by-rule)
 
 -- a new reader is a fresh one
-pub view-fresh : (command wanted : ℕ) (f : List ℕ) → view (freshCounts command wanted) f ≡ fresh (config command wanted)
+pub view-fresh : (command wanted : ℕ) (strict : Bool) (f : List ℕ) → view (freshCounts command wanted strict) f ≡ fresh (config command wanted strict)
 unfolding view chop front
-view-fresh command wanted f = refl
+view-fresh command wanted strict f = refl
 
 -- DEMAND 3, of the code
 pub code-cuts-dont-matter : CodeCutsDontMatter
-code-cuts-dont-matter command wanted m s ss f st tk c′ f′ fed =
-    let q = fed-answers s ss (freshCounts command wanted) f st tk c′ f′ fed in
-    rw (q, view-fresh command wanted f) (cuts-dont-matter (config command wanted) m s ss)
+code-cuts-dont-matter command wanted strict m s ss f st tk c′ f′ fed =
+    let q = fed-answers s ss (freshCounts command wanted strict) f st tk c′ f′ fed in
+    rw (q, view-fresh command wanted strict f) (cuts-dont-matter (config command wanted strict) m s ss)

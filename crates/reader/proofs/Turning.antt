@@ -38,14 +38,15 @@ module _ (f : List ℕ) (c : Counts) (s : List ℕ) (st tk : ℕ) (c′ : Counts
       go false e = ap bad (answered-push f c s st tk c′ f′ a e .0) ∙ bad-push (view c f) s e
 
   -- what the reader was asked for stays
-  pub asked-stays : (c .command ≡ c′ .command) × (c .wanted ≡ c′ .wanted)
+  pub asked-stays : (c .command ≡ c′ .command) × (c .strict ≡ c′ .strict) × (c .wanted ≡ c′ .wanted)
   unfolding view push booked
   asked-stays = go (bad (view c f)) refl
     where
-      go : (b : Bool) → bad (view c f) ≡ b → (c .command ≡ c′ .command) × (c .wanted ≡ c′ .wanted)
-      go true e = let q = sym (answered-refused f c s st tk c′ f′ a e .2) in (ap (λ (x : Counts). x .command) q, ap (λ (x : Counts). x .wanted) q)
+      go : (b : Bool) → bad (view c f) ≡ b → (c .command ≡ c′ .command) × (c .strict ≡ c′ .strict) × (c .wanted ≡ c′ .wanted)
+      go true e = let q = sym (answered-refused f c s st tk c′ f′ a e .2) in (ap (λ (x : Counts). x .command) q, ap (λ (x : Counts). x .strict) q, ap (λ (x : Counts). x .wanted) q)
       go false e =
-          let q = sym (answered-push f c s st tk c′ f′ a e .0) in (ap (λ (x : Reader). x .config .command) q, ap (λ (x : Reader). x .config .wanted) q)
+          let q = sym (answered-push f c s st tk c′ f′ a e .0) in
+          (ap (λ (x : Reader). x .config .command) q, ap (λ (x : Reader). x .config .strict) q, ap (λ (x : Reader). x .config .wanted) q)
 
   pub holds-few : (st ≡ 8 → ⊥) → c′ .held ≤ 12
   holds-few n = sane c′ f′ (stays-good n) .0

@@ -113,11 +113,11 @@ module _ (c : Config) (o₀ : Outcome) (x₀ : ℕ) (s f : List ℕ) (have at l 
             rw (k, ← drop-drop (span y) at s) (ahead-discarded c o₀ x₀ (chop have f) (drop at s) l x y (judged ∙ ap (λ (a : Fate). some a) q) here)
 
     -- a frame is collected behind the first k
-    pub here-collected : (k x′ : ℕ) (g : List ℕ) → 0 ≡ lost (judge c have (cut s at)) → k ≡ (if restarts (config 0 (c .wanted)) (cut s at) then 0 else have)
+    pub here-collected : (k x′ : ℕ) (g : List ℕ) → 0 ≡ lost (judge c have (cut s at)) → k ≡ (if restarts (config 0 (c .wanted) false) (cut s at) then 0 else have)
         → g ≡ paste f (13 * k) (drop at s) 13 → 13 * k + 13 ≤ length f → x′ ≡ wrap (x + (have - k)) → Here c o₀ x₀ s g (k + 1) (at + 13) l x′
     unfolding after
     here-collected k x′ g e ke ge room xe =
-        let q = stays c (window s at) f have k (ke ∙ ap (λ (v : List ℕ). if restarts (config 0 (c .wanted)) v then 0 else have) (cut-is s at)) in
+        let q = stays c (window s at) f have k (ke ∙ ap (λ (v : List ℕ). if restarts (config 0 (c .wanted) false) v then 0 else have) (cut-is s at)) in
         let e′ : 0 ≡ lost (judge c have (window s at)) = e ∙ ap (λ (v : List ℕ). lost (judge c have v)) (cut-is s at) in
         let t : Ahead o₀ x₀ (run c (stay c (window s at) (chop have f) ++ (window s at ∷ [])) (drop 13 (drop at s))) (l + 0) (wrap (x + drops c collected (window s at) (chop have f))) =
         ahead-turn c o₀ x₀ (chop have f) (drop at s) l x collected (judged ∙ ap (λ (a : Fate). some a) (is-collected (judge c have (window s at)) e′)) here in

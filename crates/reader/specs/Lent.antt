@@ -1,7 +1,7 @@
 -- The reader where the caller has it: what is seen of it, a new one, and the push. Definitions only.
 use Prim.Native.Nat.{ℕ}
 use mathlib.Core.Path.{_≡_}
-use mathlib.Core.Bool.{true}
+use mathlib.Core.Bool.{Bool, true}
 use mathlib.Core.List.{List}
 use Rattle.rules.specs.Reader.{Reader, bad, missing}
 use Rattle.reader.specs.View.{view, Answered}
@@ -17,8 +17,8 @@ abbrev pub seen : FrameReader → Reader
 seen r = view (r .counts) (r .frames)
 
 -- a new reader in the caller's place: the number that is answered, and the reader afterwards, to the last place
-abbrev pub OpenedLent : List ℕ → ℕ → ℕ → FrameReader → Type 0
-OpenedLent request size number after = _≡_ {A = Opened} (record { number = number; reader = after }) (opened request size)
+abbrev pub OpenedLent : List ℕ → ℕ → Bool → ℕ → FrameReader → Type 0
+OpenedLent request size strict number after = _≡_ {A = Opened} (record { number = number; reader = after }) (opened request size strict)
 
 -- "push also exists as the Rust has it, on a reader lent by the caller, with the same meaning": what it says, and the reader afterwards
 abbrev pub AnsweredLent : FrameReader → List ℕ → Said → FrameReader → Type 0

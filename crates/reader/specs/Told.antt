@@ -1,6 +1,6 @@
 -- What a new reader, `missing` and `is_complete` answer. Definitions only.
 use Prim.Native.Nat.{ℕ}
-use mathlib.Core.Bool.{false}
+use mathlib.Core.Bool.{Bool, false}
 use mathlib.Core.List.{List}
 use lib.ListN.{replicate}
 use Rattle.frame.specs.Refusals.{checkNumber}
@@ -14,24 +14,24 @@ use Rattle.reader.specs.declared.Missing.{Missing}
 use Rattle.reader.specs.declared.Completed.{Completed}
 
 -- a reader into which nothing was pushed: its numbers, and these with its array, all 0
-abbrev pub freshCounts : ℕ → ℕ → Counts
-freshCounts command wanted =
-    record { command = command; mark = false; taken = 0; discarded = 0; cleared = 0; wanted = wanted; collected = 0; held = 0 }
+abbrev pub freshCounts : ℕ → ℕ → Bool → Counts
+freshCounts command wanted strict =
+    record { command = command; mark = false; strict = strict; taken = 0; discarded = 0; cleared = 0; wanted = wanted; collected = 0; held = 0 }
 
-abbrev pub freshReader : ℕ → ℕ → FrameReader
-freshReader command wanted = record { counts = freshCounts command wanted; frames = replicate 1105 0 }
+abbrev pub freshReader : ℕ → ℕ → Bool → FrameReader
+freshReader command wanted strict = record { counts = freshCounts command wanted strict; frames = replicate 1105 0 }
 
 -- what a new reader begins with: 0, 7 or 6, and its numbers
-abbrev pub openingOf : List ℕ → ℕ → Opening
-openingOf request size =
-    let c : Config = newConfig (newCheck request size) request size in
-    record { number = checkNumber (newCheck request size); counts = freshCounts (c .command) (c .wanted) }
+abbrev pub openingOf : List ℕ → ℕ → Bool → Opening
+openingOf request size strict =
+    let c : Config = newConfig (newCheck request size) request size strict in
+    record { number = checkNumber (newCheck request size); counts = freshCounts (c .command) (c .wanted) (c .strict) }
 
 -- "A refused new reader is all zero and wants 0 frames"
-abbrev pub opened : List ℕ → ℕ → Opened
-opened request size =
-    let c : Config = newConfig (newCheck request size) request size in
-    record { number = checkNumber (newCheck request size); reader = freshReader (c .command) (c .wanted) }
+abbrev pub opened : List ℕ → ℕ → Bool → Opened
+opened request size strict =
+    let c : Config = newConfig (newCheck request size) request size strict in
+    record { number = checkNumber (newCheck request size); reader = freshReader (c .command) (c .wanted) (c .strict) }
 
 -- "`missing` then answers 0 and completeness no, both with 8"
 abbrev pub missingTold : Reader → Missing

@@ -1,15 +1,15 @@
 -- The reader's struct as the rules see it, and what a push answers. Definitions only.
 use Prim.Native.Nat.{ℕ, zero, suc, _*_}
 use mathlib.Core.Path.{_≡_}
-use mathlib.Core.Bool.{true}
+use mathlib.Core.Bool.{Bool, true}
 use mathlib.Core.List.{List, [], _∷_}
 use lib.ListN.{take, drop, getD}
 use Rattle.rules.specs.Rules.{Config}
 use Rattle.rules.specs.Reader.{Reader, bad, answer}
 use Rattle.reader.specs.declared.Counts.{Counts}
 
-abbrev pub config : ℕ → ℕ → Config
-config command wanted = record { command = command; wanted = wanted }
+abbrev pub config : ℕ → ℕ → Bool → Config
+config command wanted strict = record { command = command; wanted = wanted; strict = strict }
 
 -- the first k frames of a list of bytes
 unfoldable pub chop : ℕ → List ℕ → List (List ℕ)
@@ -25,7 +25,7 @@ front (suc n) l = getD l 0 0 ∷ front n (drop 1 l)
 unfoldable pub view : Counts → List ℕ → Reader
 view c f =
     record {
-      config = config (c .command) (c .wanted);
+      config = config (c .command) (c .wanted) (c .strict);
       collected = chop (c .collected) f;
       held = front (c .held) (drop (13 * c .collected) f);
       taken = c .taken;

@@ -21,6 +21,7 @@ mod state;
 pub struct Counts {
     pub command: u8,
     pub mark: bool,
+    pub strict: bool,
     pub taken: u32,
     pub discarded: u32,
     pub cleared: u32,
@@ -115,6 +116,7 @@ pub fn push_into(frames: &mut [u8; 1105], c: Counts, chunk: &[u8]) -> Told
         c.held,
         chunk,
         c.command,
+        c.strict,
         c.wanted,
         c.collected,
         c.cleared,
@@ -123,6 +125,7 @@ pub fn push_into(frames: &mut [u8; 1105], c: Counts, chunk: &[u8]) -> Told
     let next = Counts {
         command: c.command,
         mark: mark,
+        strict: c.strict,
         taken: add_count(c.taken, m.took),
         discarded: add_count(c.discarded, m.lost),
         cleared: m.cleared,
@@ -226,12 +229,13 @@ pub fn copy_from(frames: &[u8; 1105], c: Counts, out: &mut [u8]) -> Listed
 }
 
 // The numbers of a reader that has taken nothing.
-fn fresh_counts(command: u8, wanted: usize) -> Counts
-    ensures { λ r. ⌜ r ≡ freshCounts command wanted ⌝ }
+fn fresh_counts(command: u8, wanted: usize, strict: bool) -> Counts
+    ensures { λ r. ⌜ r ≡ freshCounts command wanted strict ⌝ }
 {
     Counts {
         command: command,
         mark: false,
+        strict: strict,
         taken: 0,
         discarded: 0,
         cleared: 0,
@@ -241,25 +245,25 @@ fn fresh_counts(command: u8, wanted: usize) -> Counts
     }
 }
 
-// What a new reader for the reply to `request`, of `reply_size` bytes, begins with.
-pub fn open_counts(request: &[u8], reply_size: usize) -> Opening
-    ensures { λ r. ⌜ r ≡ openingOf (now (request .entry)) «reply_size» ⌝ }
+// What a new reader for the reply to `request`, of `reply_size` bytes, begins with; a strict one will throw echoes away.
+pub fn open_counts(request: &[u8], reply_size: usize, strict: bool) -> Opening
+    ensures { λ r. ⌜ r ≡ openingOf (now (request .entry)) «reply_size» strict ⌝ }
 {
     if request.len() < 3 {
-        let zero = fresh_counts(0, 0);
+        let zero = fresh_counts(0, 0, false);
         return Opening {
             number: Refusal::RequestTooShort.number(),
             counts: zero,
         };
     }
     if 1105 < reply_size {
-        let zero = fresh_counts(0, 0);
+        let zero = fresh_counts(0, 0, false);
         return Opening {
             number: Refusal::ReplyTooLong.number(),
             counts: zero,
         };
     }
-    let counts = fresh_counts(request[2], (reply_size + 12) / 13);
+    let counts = fresh_counts(request[2], (reply_size + 12) / 13, strict);
     Opening {
         number: 0,
         counts: counts,
@@ -268,10 +272,10 @@ pub fn open_counts(request: &[u8], reply_size: usize) -> Opening
 
 impl FrameReader {
     // A reader for the reply to `request`, which is `reply_size` bytes long.
-    pub fn new(request: &[u8], reply_size: usize) -> Opened
-        ensures { λ r. ⌜ r ≡ opened (now (request .entry)) «reply_size» ⌝ }
+    pub fn new(request: &[u8], reply_size: usize, strict: bool) -> Opened
+        ensures { λ r. ⌜ r ≡ opened (now (request .entry)) «reply_size» strict ⌝ }
     {
-        let o = open_counts(request, reply_size);
+        let o = open_counts(request, reply_size, strict);
         let counts = o.counts;
         let reader = FrameReader {
             counts: counts,

@@ -41,12 +41,13 @@ fn direct(
     chunk: &[u8],
     at: usize,
     command: u8,
+    strict: bool,
     wanted: usize,
     collected: usize,
     count: u32,
 ) -> Moved
     requires { ⌜ (at ≤ length (now chunk)) × (collected ≤ wanted) × (wanted ≤ 85) ⌝ }
-    ensures { λ r. ⌜ Moves (config command wanted) (run (config command wanted) (chop collected (now (frames .entry))) (drop at (now (chunk .entry)))) count (now (chunk .entry)) (now (frames .exit)) r × (r .lost ≤ length (now (chunk .entry))) ⌝ }
+    ensures { λ r. ⌜ Moves (config command wanted strict) (run (config command wanted strict) (chop collected (now (frames .entry))) (drop at (now (chunk .entry)))) count (now (chunk .entry)) (now (frames .exit)) r × (r .lost ≤ length (now (chunk .entry))) ⌝ }
 {
     // Bytes of noise often come few at a time: they are discarded without a scan, which passes over more of them quickly itself.
     if collected < wanted {
@@ -62,7 +63,7 @@ fn direct(
             }
         }
     }
-    let p = scan(chunk, at, frames, command, wanted, collected, count);
+    let p = scan(chunk, at, frames, command, strict, wanted, collected, count);
     let stop = p.at;
     let have = p.collected;
     if wanted <= have {
@@ -123,16 +124,26 @@ fn bridged(
     held: usize,
     chunk: &[u8],
     command: u8,
+    strict: bool,
     wanted: usize,
     collected: usize,
     count: u32,
 ) -> Moved
     requires { ⌜ (held ≤ 12) × (collected < wanted) × (wanted ≤ 85) ⌝ }
-    ensures { λ r. ⌜ Moves (config command wanted) (run (config command wanted) (chop collected (now (frames .entry))) (front held (drop (13 * collected) (now (frames .entry))) ++ now (chunk .entry))) count (now (chunk .entry)) (now (frames .exit)) r ⌝ }
+    ensures { λ r. ⌜ Moves (config command wanted strict) (run (config command wanted strict) (chop collected (now (frames .entry))) (front held (drop (13 * collected) (now (frames .entry))) ++ now (chunk .entry))) count (now (chunk .entry)) (now (frames .exit)) r ⌝ }
 {
     let mut w = [0u8; 24];
     let m = bridge(frames, collected, held, chunk, &mut w);
-    let p = scan(&w[..m], 0, frames, command, wanted, collected, count);
+    let p = scan(
+        &w[..m],
+        0,
+        frames,
+        command,
+        strict,
+        wanted,
+        collected,
+        count,
+    );
     let stop = p.at;
     let have = p.collected;
     if stop < held {
@@ -145,7 +156,16 @@ fn bridged(
             held: k,
         };
     }
-    let q = direct(frames, chunk, stop - held, command, wanted, have, p.cleared);
+    let q = direct(
+        frames,
+        chunk,
+        stop - held,
+        command,
+        strict,
+        wanted,
+        have,
+        p.cleared,
+    );
     Moved {
         took: q.took,
         lost: p.lost + q.lost,
@@ -161,15 +181,16 @@ pub(crate) fn advance(
     held: usize,
     chunk: &[u8],
     command: u8,
+    strict: bool,
     wanted: usize,
     collected: usize,
     count: u32,
 ) -> Moved
     requires { ⌜ (held ≤ 12) × (wanted ≤ 85) × (collected ≤ wanted) × (0 < held → collected < wanted) × (0 < held → getD (now frames) (13 * collected) 0 ≡ 0xA5) ⌝ }
-    ensures { λ r. ⌜ Moves (config command wanted) (run (config command wanted) (chop collected (now (frames .entry))) (front held (drop (13 * collected) (now (frames .entry))) ++ now (chunk .entry))) count (now (chunk .entry)) (now (frames .exit)) r ⌝ }
+    ensures { λ r. ⌜ Moves (config command wanted strict) (run (config command wanted strict) (chop collected (now (frames .entry))) (front held (drop (13 * collected) (now (frames .entry))) ++ now (chunk .entry))) count (now (chunk .entry)) (now (frames .exit)) r ⌝ }
 {
     if held == 0 {
-        return direct(frames, chunk, 0, command, wanted, collected, count);
+        return direct(frames, chunk, 0, command, strict, wanted, collected, count);
     }
     let len = chunk.len();
     if len < 13 - held {
@@ -182,5 +203,14 @@ pub(crate) fn advance(
             held: held + len,
         };
     }
-    bridged(frames, held, chunk, command, wanted, collected, count)
+    bridged(
+        frames,
+        held,
+        chunk,
+        command,
+        strict,
+        wanted,
+        collected,
+        count,
+    )
 }

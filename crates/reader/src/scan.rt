@@ -1,7 +1,9 @@
 // The rules on the bytes of a slice, one turn after the other.
 ghost use mathlib.Core.Path.{_≡_};
 ghost use Prim.Native.Nat.{_+_, _%_, _<_, _≤_};
-ghost use mathlib.Core.Bool.{true};
+ghost use mathlib.Core.Bool.{true, false, _&&_};
+ghost use lib.Dec.{eqb};
+ghost use Rattle.wire.specs.Bytes.{byteAt};
 ghost use lib.ListN.{length, drop};
 ghost use lib.Seq.{paste};
 ghost use Rattle.rules.specs.Rules.{judge, lost as lostOf, restarts, if_then_else_};
@@ -39,6 +41,16 @@ pub(crate) fn copy(to: &mut [u8], start: usize, from: &[u8], at: usize, n: usize
         to[start + i] = from[at + i];
         i += 1;
     }
+}
+
+// A frame of `from`, from `at` on, goes to `to` from `start` on: through an array of its own, since the compiler must fear that the two overlap and would otherwise move byte by byte.
+fn put(to: &mut [u8], start: usize, from: &[u8], at: usize)
+    requires { ⌜ (start + 13 ≤ length (now to)) × (at + 13 ≤ length (now from)) ⌝ }
+    ensures { λ r. ⌜ now (to .exit) ≡ paste (now (to .entry)) start (drop at (now (from .entry))) 13 ⌝ }
+{
+    let mut w = [0u8; 13];
+    copy(&mut w, 0, from, at, 13);
+    copy(to, start, &w, 0, 13);
 }
 
 // Whether none of the 32 bytes from `from` on is A5. It looks at all of them, so that the compiler can look at many at once.
@@ -102,10 +114,21 @@ pub(crate) fn is_noise(s: &[u8], from: usize) -> bool
     true
 }
 
+// Whether w, of 13 bytes, has our own address, which a reader that is not strict does not look at.
+fn is_echo(w: &[u8], strict: bool) -> bool
+    requires { ⌜ length (now w) ≡ 13 ⌝ }
+    ensures { λ r. ⌜ r ≡ (strict && eqb (byteAt (now (w .entry)) 1) 0x40) ⌝ }
+{
+    if strict {
+        return w[1] == frame::HOST_ADDRESS;
+    }
+    false
+}
+
 // How many bytes of w, which are 13 and begin with A5, are discarded: 1, 13, or 0 where w is collected.
-fn discards(w: &[u8], command: u8, wanted: usize, have: usize) -> usize
+fn discards(w: &[u8], command: u8, strict: bool, wanted: usize, have: usize) -> usize
     requires { ⌜ (length (now w) ≡ 13) × (have < 85) ⌝ }
-    ensures { λ r. ⌜ (r ≡ lostOf (judge (config command wanted) have (now (w .entry)))) × (r ≤ 13) ⌝ }
+    ensures { λ r. ⌜ (r ≡ lostOf (judge (config command wanted strict) have (now (w .entry)))) × (r ≤ 13) ⌝ }
 {
     let sum = frame::calc_crc(w);
     // "wrong sum: one byte is discarded"
@@ -115,6 +138,10 @@ fn discards(w: &[u8], command: u8, wanted: usize, have: usize) -> usize
     // "wrong command: 13 are discarded"
     if w[2] != command {
         return frame::FRAME_LENGTH;
+    }
+    // "discards an echo whole, after the command check and before the number check" (K1)
+    if is_echo(w, strict) {
+        return 13;
     }
     // "With n = 1 the number is not read"
     if wanted <= 1 {
@@ -135,7 +162,7 @@ fn discards(w: &[u8], command: u8, wanted: usize, have: usize) -> usize
 // How many of the collected frames stay when w is collected.
 fn staying(w: &[u8], wanted: usize, have: usize) -> usize
     requires { ⌜ length (now w) ≡ 13 ⌝ }
-    ensures { λ r. ⌜ (r ≡ (if restarts (config 0 wanted) (now (w .entry)) then 0 else have)) × (r ≤ have) ⌝ }
+    ensures { λ r. ⌜ (r ≡ (if restarts (config 0 wanted false) (now (w .entry)) then 0 else have)) × (r ≤ have) ⌝ }
 {
     if wanted < 2 {
         return have;
@@ -153,12 +180,13 @@ pub(crate) fn scan(
     from: usize,
     frames: &mut [u8; 1105],
     command: u8,
+    strict: bool,
     wanted: usize,
     collected: usize,
     count: u32,
 ) -> Progress
     requires { ⌜ (from ≤ length (now s)) × (collected ≤ wanted) × (wanted ≤ 85) ⌝ }
-    ensures { λ r. ⌜ Ran (run (config command wanted) (chop collected (now (frames .entry))) (drop from (now (s .entry)))) count wanted (now (s .entry)) (now (frames .exit)) r ⌝ }
+    ensures { λ r. ⌜ Ran (run (config command wanted strict) (chop collected (now (frames .entry))) (drop from (now (s .entry)))) count wanted (now (s .entry)) (now (frames .exit)) r ⌝ }
 {
     let end = s.len();
     let mut at = from;
@@ -177,10 +205,10 @@ pub(crate) fn scan(
             if end - at < 13 {
                 break;
             }
-            let d = discards(&s[at..at + 13], command, wanted, have);
+            let d = discards(&s[at..at + 13], command, strict, wanted, have);
             if d == 0 {
                 let k = staying(&s[at..at + 13], wanted, have);
-                copy(frames, 13 * k, s, at, 13);
+                put(frames, 13 * k, s, at);
                 cleared = add_count(cleared, have - k);
                 have = k + 1;
                 at += 13;

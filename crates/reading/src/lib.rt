@@ -33,23 +33,23 @@ pub fn reply_size() -> usize
 pub fn decode_set_discharge_mosfet(rx_buffer: &[u8]) -> Check
     ensures { λ r. ⌜ r ≡ frameCheck 0xD9 (now («rx_buffer» .entry)) ⌝ }
 {
-    frame::frame_check(rx_buffer, frame::command::SET_DISCHARGE_MOSFET)
+    frame::reply_check(rx_buffer, frame::command::SET_DISCHARGE_MOSFET)
 }
 
 pub fn decode_set_charge_mosfet(rx_buffer: &[u8]) -> Check
     ensures { λ r. ⌜ r ≡ frameCheck 0xDA (now («rx_buffer» .entry)) ⌝ }
 {
-    frame::frame_check(rx_buffer, frame::command::SET_CHARGE_MOSFET)
+    frame::reply_check(rx_buffer, frame::command::SET_CHARGE_MOSFET)
 }
 
 pub fn decode_set_soc(rx_buffer: &[u8]) -> Check
     ensures { λ r. ⌜ r ≡ frameCheck 0x21 (now («rx_buffer» .entry)) ⌝ }
 {
-    frame::frame_check(rx_buffer, frame::command::SET_SOC)
+    frame::reply_check(rx_buffer, frame::command::SET_SOC)
 }
 
 pub fn decode_bms_reset(rx_buffer: &[u8]) -> Check
     ensures { λ r. ⌜ r ≡ frameCheck 0x00 (now («rx_buffer» .entry)) ⌝ }
 {
-    frame::frame_check(rx_buffer, frame::command::BMS_RESET)
+    frame::reply_check(rx_buffer, frame::command::BMS_RESET)
 }

@@ -48,7 +48,7 @@ sizes = refl
 
 -- and the frames that such a reader wants, by command and count
 pub wants : asked 0x95 8 ∷ asked 0x96 8 ∷ asked 0x90 8 ∷ []
-    ≡ record { command = 0x95; wanted = 3 } ∷ record { command = 0x96; wanted = 2 } ∷ record { command = 0x90; wanted = 1 } ∷ []
+    ≡ record { command = 0x95; wanted = 3; strict = false } ∷ record { command = 0x96; wanted = 2; strict = false } ∷ record { command = 0x90; wanted = 1; strict = false } ∷ []
 unfolding replySizeFor
 wants = refl
 
@@ -59,15 +59,15 @@ abbrev came : ℕ → ℕ → ℕ → Reader → State
 came seen command count reader = record { seen = seen; command = command; count = count; reader = reader }
 
 abbrev none : Reader
-none = fresh record { command = 0; wanted = 0 }
+none = fresh record { command = 0; wanted = 0; strict = false }
 
 abbrev fresh95 : Reader
-fresh95 = fresh record { command = 0x95; wanted = 3 }
+fresh95 = fresh record { command = 0x95; wanted = 3; strict = false }
 
 -- nothing; a first byte; a first byte twice, the second of which is the count; and these in one chunk
 pub first-two :
     (stateOf begun [] ≡ came 0 0 0 none)
-    × (stateOf (record { seen = 2; command = 0x90; count = 5; counts = freshCounts 0x90 1 }) [] ≡ came 2 0x90 5 (fresh c90))
+    × (stateOf (record { seen = 2; command = 0x90; count = 5; counts = freshCounts 0x90 1 false }) [] ≡ came 2 0x90 5 (fresh c90))
     × (pushed (came 0 0 0 none) [] ≡ came 0 0 0 none)
     × (pushed (came 0 0 0 none) (0x95 ∷ []) ≡ came 1 0x95 0 none)
     × (pushed (came 1 0x95 0 none) [] ≡ came 1 0x95 0 none)
@@ -95,7 +95,7 @@ unfolding printed reported joined status line field decimal hex2 answerText fram
 prints = (refl, refl, refl, refl)
 
 -- the counts line's numbers from the struct, each from its own
-pub tallied : tallyOf (record { command = 0x95; mark = false; taken = 9; discarded = 8; cleared = 7; wanted = 6; collected = 5; held = 4 })
+pub tallied : tallyOf (record { command = 0x95; mark = false; strict = false; taken = 9; discarded = 8; cleared = 7; wanted = 6; collected = 5; held = 4 })
     ≡ record { taken = 9; held = 4; frames = 5; discarded = 8; cleared = 7 }
 tallied = refl
 

@@ -55,12 +55,12 @@ unfolding fromSecond
 second-none st [] e = refl
 second-none st (x ∷ s) e = absurd (omega arith)
 
-pub second-some : (i : Input) (f s : List ℕ) (k : Counts) → (length s ≡ 0 → ⊥) → k ≡ freshCounts (i .command) (wantedFor (i .command) (getD s 0 0))
+pub second-some : (i : Input) (f s : List ℕ) (k : Counts) → (length s ≡ 0 → ⊥) → k ≡ freshCounts (i .command) (wantedFor (i .command) (getD s 0 0)) false
     → streamed (stateOf (record { seen = 2; command = i .command; count = getD s 0 0; counts = k }) f) (take (length s - 1) (drop 1 s))
     ≡ fromSecond (stateOf i f) s
 unfolding stateOf fromSecond
 second-some i f [] k n e = absurd (n refl)
-second-some i f (x ∷ s) k n e = rw (rest (x ∷ s), e, view-fresh (i .command) (wantedFor (i .command) x) f)
+second-some i f (x ∷ s) k n e = rw (rest (x ∷ s), e, view-fresh (i .command) (wantedFor (i .command) x) false f)
 
 pub first-none : (st : State) (s : List ℕ) → length s ≡ 0 → fromFirst st s ≡ st
 unfolding fromFirst

@@ -1,7 +1,7 @@
 -- The input's bytes as they come, in chunks: what stands after each, and that only the bytes decide. Definitions only.
 use Prim.Native.Nat.{ℕ}
 use mathlib.Core.Path.{_≡_}
-use mathlib.Core.Bool.{cond}
+use mathlib.Core.Bool.{cond, false}
 use mathlib.Core.List.{List, [], _∷_}
 use lib.Dec.{ltb, eqb}
 use Rattle.frame.specs.declared.Refusal.the-variants.{RequestTooShort}
@@ -27,7 +27,7 @@ stateOf i f = record { seen = i .seen; command = i .command; count = i .count; r
 
 -- nothing has come yet
 abbrev pub begun : Input
-begun = record { seen = 0; command = 0; count = 0; counts = freshCounts 0 0 }
+begun = record { seen = 0; command = 0; count = 0; counts = freshCounts 0 0 false }
 
 -- bytes behind the first two
 unfoldable pub streamed : State → List ℕ → State

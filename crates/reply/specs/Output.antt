@@ -1,6 +1,6 @@
 -- Document 01, `readreply`: what it prints, of the bytes of its input alone. Definitions only.
 use Prim.Native.Nat.{ℕ}
-use mathlib.Core.Bool.{Bool, cond, _&&_}
+use mathlib.Core.Bool.{Bool, false, cond, _&&_}
 use mathlib.Core.List.{List, [], _∷_}
 use lib.Dec.{leb, eqb}
 use lib.ListN.{length}
@@ -24,7 +24,7 @@ abbrev pub wantedFor : ℕ → ℕ → ℕ
 wantedFor command count = framesOf (replySizeFor command count)
 
 abbrev pub asked : ℕ → ℕ → Config
-asked command count = record { command = command; wanted = wantedFor command count }
+asked command count = record { command = command; wanted = wantedFor command count; strict = false }
 
 -- "one line of counts"
 abbrev pub tally : Reader → Tally

@@ -8,7 +8,7 @@ ghost use Rattle.reply.specs.Output.{known, replySizeFor, wantedFor, rep
 ghost use Rattle.report.specs.Lines.{refusalLine};
 ghost use Rattle.reply.specs.Input.{begun, stateOf, streamed, fromSecond, pushed, printed, tallyOf};
 ghost use Rattle.reader.specs.View.{view};
-ghost use mathlib.Core.Bool.{cond};
+ghost use mathlib.Core.Bool.{cond, false};
 use frame::Refusal;
 use reader::Counts;
 use report::Tally;
@@ -39,12 +39,13 @@ fn reply_size(command: u8, count: u8) -> usize
 }
 
 fn fresh(command: u8, count: u8) -> Counts
-    ensures { λ r. ⌜ r ≡ freshCounts command (wantedFor command count) ⌝ }
+    ensures { λ r. ⌜ r ≡ freshCounts command (wantedFor command count) false ⌝ }
 {
     let size = reply_size(command, count);
     Counts {
         command: command,
         mark: false,
+        strict: false,
         taken: 0,
         discarded: 0,
         cleared: 0,
@@ -65,6 +66,7 @@ pub fn begin() -> Input
         counts: Counts {
             command: 0,
             mark: false,
+            strict: false,
             taken: 0,
             discarded: 0,
             cleared: 0,

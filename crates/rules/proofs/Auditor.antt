@@ -92,7 +92,7 @@ read-sum c i w v = v .total
 
 -- the number is read as soon as two frames are wanted, and a complete reader has both
 abbrev c95-two : Config
-c95-two = record { command = 0x95; wanted = 2 }
+c95-two = record { command = 0x95; wanted = 2; strict = false }
 
 read-two : CutsDontMatter → (1 < 2 → is 1 1) × is 2 2
 unfolding answers answer bad status push did run turns look judge restarts sumRight sum total after drops stay booked counted complete heldOf untaken spent joined

@@ -20,7 +20,7 @@ answered c status took frames held taken discarded cleared mark =
     }
 
 abbrev pub c90 : Config
-c90 = record { command = 0x90; wanted = 1 }
+c90 = record { command = 0x90; wanted = 1; strict = false }
 
 -- its number is 2, which a reader of one frame does not read
 abbrev pub frame90 : List ℕ
@@ -46,11 +46,65 @@ pub wrong-command-next : answer (fresh c90) (0xA5 ∷ 0x01 ∷ 0x91 ∷ 0x08 ∷
 unfolding answer bad status push did run turns look judge restarts sumRight sum total after drops stay booked counted complete heldOf untaken
 wrong-command-next = refl
 
+-- our own 90 question, come back, and then the reply: a strict reader throws the question away, another one takes it for the reply
+abbrev pub question : List ℕ
+question = 0xA5 ∷ 0x40 ∷ 0x90 ∷ 0x08 ∷ 0 ∷ 0 ∷ 0 ∷ 0 ∷ 0 ∷ 0 ∷ 0 ∷ 0 ∷ 0x7D ∷ []
+
+abbrev pub strict90 : Config
+strict90 = record { command = 0x90; wanted = 1; strict = true }
+
+pub echo-thrown : answer (fresh strict90) (question ++ frame90) ≡ answered strict90 0 26 (frame90 ∷ []) [] 26 13 0 false
+unfolding answer bad status push did run turns look judge restarts sumRight sum total after drops stay booked counted complete heldOf untaken
+echo-thrown = refl
+
+pub echo-read : answer (fresh c90) (question ++ frame90) ≡ answered c90 0 13 (question ∷ []) [] 13 0 0 false
+unfolding answer bad status push did run turns look judge restarts sumRight sum total after drops stay booked counted complete heldOf untaken
+echo-read = refl
+
+-- a start byte among the 13 bytes of an echo begins nothing: here it would be a frame, with the four bytes behind it
+abbrev pub hiding : List ℕ
+hiding = 0xA5 ∷ 0x40 ∷ 0x90 ∷ 0x08 ∷ 0xA5 ∷ 0x01 ∷ 0x90 ∷ 0x08 ∷ 0 ∷ 0 ∷ 0 ∷ 0 ∷ 0xBB ∷ []
+
+pub echo-whole : answer (fresh strict90) (hiding ++ (0 ∷ 0 ∷ 0 ∷ 0xF9 ∷ []) ++ frame90) ≡ answered strict90 0 30 (frame90 ∷ []) [] 30 17 0 false
+unfolding answer bad status push did run turns look judge restarts sumRight sum total after drops stay booked counted complete heldOf untaken
+echo-whole = refl
+
+-- the echo of another command; a sender at 41, and a command 40, are no echoes
+pub echo-another : answer (fresh strict90) ((0xA5 ∷ 0x40 ∷ 0x91 ∷ 0x08 ∷ 0 ∷ 0 ∷ 0 ∷ 0 ∷ 0 ∷ 0 ∷ 0 ∷ 0 ∷ 0x7E ∷ []) ++ frame90) ≡ answered strict90 0 26 (frame90 ∷ []) [] 26 13 0 false
+unfolding answer bad status push did run turns look judge restarts sumRight sum total after drops stay booked counted complete heldOf untaken
+echo-another = refl
+
+abbrev from41 : List ℕ
+from41 = 0xA5 ∷ 0x41 ∷ 0x90 ∷ 0x08 ∷ 0 ∷ 0 ∷ 0 ∷ 0 ∷ 0 ∷ 0 ∷ 0 ∷ 0 ∷ 0x7E ∷ []
+
+pub no-echo-41 : answer (fresh strict90) from41 ≡ answered strict90 0 13 (from41 ∷ []) [] 13 0 0 false
+unfolding answer bad status push did run turns look judge restarts sumRight sum total after drops stay booked counted complete heldOf untaken
+no-echo-41 = refl
+
+abbrev strict40 : Config
+strict40 = record { command = 0x40; wanted = 1; strict = true }
+
+abbrev asked40 : List ℕ
+asked40 = 0xA5 ∷ 0x01 ∷ 0x40 ∷ 0x08 ∷ 0 ∷ 0 ∷ 0 ∷ 0 ∷ 0 ∷ 0 ∷ 0 ∷ 0 ∷ 0xEE ∷ []
+
+pub no-echo-40 : answer (fresh strict40) asked40 ≡ answered strict40 0 13 (asked40 ∷ []) [] 13 0 0 false
+unfolding answer bad status push did run turns look judge restarts sumRight sum total after drops stay booked counted complete heldOf untaken
+no-echo-40 = refl
+
+-- an echo counts among the 512: 499 and 13 are not over it, 500 and 13 are
+pub echo-within : answer (answered strict90 0 0 [] [] 499 499 0 false .reader) question ≡ answered strict90 0 13 [] [] 512 512 0 false
+unfolding answer bad status push did run turns look judge restarts sumRight sum total after drops stay booked counted complete heldOf untaken
+echo-within = refl
+
+pub echo-over : answer (answered strict90 0 0 [] [] 500 500 0 false .reader) question ≡ answered strict90 2 13 [] [] 513 513 0 true
+unfolding answer bad status push did run turns look judge restarts sumRight sum total after drops stay booked counted complete heldOf untaken
+echo-over = refl
+
 abbrev pub numbered : ℕ → ℕ → List ℕ
 numbered i s = 0xA5 ∷ 0x01 ∷ 0x95 ∷ 0x08 ∷ i ∷ 0 ∷ 0 ∷ 0 ∷ 0 ∷ 0 ∷ 0 ∷ 0 ∷ s ∷ []
 
 abbrev pub c95 : Config
-c95 = record { command = 0x95; wanted = 3 }
+c95 = record { command = 0x95; wanted = 3; strict = false }
 
 abbrev pub f1 : List ℕ
 f1 = numbered 1 0x44
@@ -76,8 +130,23 @@ pub wrong-number-whole : answer (fresh c95) (f1 ++ (0xA5 ∷ 0x01 ∷ 0x95 ∷ 0
 unfolding answer bad status push did run turns look judge restarts sumRight sum total after drops stay booked counted complete heldOf untaken
 wrong-number-whole = refl
 
+-- an echo numbered 1 drops nothing in strict mode, and everything in the other
+abbrev strict95 : Config
+strict95 = record { command = 0x95; wanted = 3; strict = true }
+
+abbrev echo1 : List ℕ
+echo1 = 0xA5 ∷ 0x40 ∷ 0x95 ∷ 0x08 ∷ 1 ∷ 0 ∷ 0 ∷ 0 ∷ 0 ∷ 0 ∷ 0 ∷ 0 ∷ 0x83 ∷ []
+
+pub echo-numbered : answer (fresh strict95) (f1 ++ f2 ++ echo1 ++ f3) ≡ answered strict95 0 52 (f1 ∷ f2 ∷ f3 ∷ []) [] 52 13 0 false
+unfolding answer bad status push did run turns look judge restarts sumRight sum total after drops stay booked counted complete heldOf untaken
+echo-numbered = refl
+
+pub echo-restarts : answer (fresh c95) (f1 ++ f2 ++ echo1 ++ f3) ≡ answered c95 0 52 (echo1 ∷ []) [] 52 13 2 false
+unfolding answer bad status push did run turns look judge restarts sumRight sum total after drops stay booked counted complete heldOf untaken
+echo-restarts = refl
+
 abbrev c95-two : Config
-c95-two = record { command = 0x95; wanted = 2 }
+c95-two = record { command = 0x95; wanted = 2; strict = false }
 
 -- with two frames wanted the number is read, too: one that begins again, and one that is wrong
 pub two-again : answer (fresh c95-two) (f1 ++ f1 ++ f2) ≡ answered c95-two 0 39 (f1 ∷ f2 ∷ []) [] 39 0 1 false

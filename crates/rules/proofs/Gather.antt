@@ -54,11 +54,20 @@ module _ (c : Config) where
       go true true e d = rw d
       go true false e d = rw (eq-eqb (byteAt f 4) (suc have) (next-is p (ltb-true 1 (c .wanted) e) d))
 
+  -- in strict mode it is no echo
+  not-echo : (f : List ℕ) → (c .strict ≡ true → byteAt f 1 ≡ 0x40 → ⊥) → c .strict && eqb (byteAt f 1) 0x40 ≡ false
+  not-echo f s = go (c .strict) (eqb (byteAt f 1) 0x40) refl refl
+    where
+      go : (a b : Bool) → c .strict ≡ a → eqb (byteAt f 1) 0x40 ≡ b → a && b ≡ false
+      go false b p q = refl
+      go true false p q = refl
+      go true true p q = absurd (s p (eqb-true (byteAt f 1) 0x40 q))
+
   judged : (have n : ℕ) (f : List ℕ) → (n ≡ 0) ⊎ (n ≡ have) → Valid c (suc n) f → judge c have f ≡ collected
   unfolding judge first sumRight
   judged have n f p v =
       first-none (tests c have f)
-      (rw (eq-eqb _ _ (v .total)), (rw (eq-eqb _ _ (v .command)), (in-place have n f p v, tt)))
+      (rw (eq-eqb _ _ (v .total)), (rw (eq-eqb _ _ (v .command)), (not-echo f (v .sender), (in-place have n f p v, tt))))
 
   -- a valid frame at the front is what the next turn collects
   looked-at : (have n : ℕ) (f t : List ℕ) → have < c .wanted → (n ≡ 0) ⊎ (n ≡ have) → Valid c (suc n) f → look c have (f ++ t) ≡ some collected

@@ -44,7 +44,7 @@ impl SocCounts {
     pub fn decode(rx_buffer: &[u8]) -> SocCountsAnswer
         ensures { λ r. ⌜ r ≡ decodedSocCounts (now («rx_buffer» .entry)) ⌝ }
     {
-        match frame::frame_check(rx_buffer, frame::command::SOC) {
+        match frame::reply_check(rx_buffer, frame::command::SOC) {
             Check::Refused(refusal) => SocCountsAnswer::SocCountsRefused(refusal),
             Check::Sound => SocCountsAnswer::SocCountsGiven(Self::read(rx_buffer)),
         }

@@ -66,7 +66,7 @@ impl Status {
     pub fn decode(rx_buffer: &[u8]) -> StatusAnswer
         ensures { λ r. ⌜ r ≡ decodedStatus (now («rx_buffer» .entry)) ⌝ }
     {
-        match frame::frame_check(rx_buffer, frame::command::STATUS) {
+        match frame::reply_check(rx_buffer, frame::command::STATUS) {
             Check::Refused(refusal) => StatusAnswer::StatusRefused(refusal),
             Check::Sound => StatusAnswer::StatusGiven(Self::read(rx_buffer)),
         }

@@ -51,7 +51,7 @@ impl TemperatureRange {
     pub fn decode(rx_buffer: &[u8]) -> TemperatureRangeAnswer
         ensures { λ r. ⌜ r ≡ decodedTemperatureRange (now («rx_buffer» .entry)) ⌝ }
     {
-        match frame::frame_check(rx_buffer, frame::command::TEMPERATURE_RANGE) {
+        match frame::reply_check(rx_buffer, frame::command::TEMPERATURE_RANGE) {
             Check::Refused(refusal) => TemperatureRangeAnswer::TemperatureRangeRefused(refusal),
             Check::Sound => TemperatureRangeAnswer::TemperatureRangeGiven(Self::read(rx_buffer)),
         }

@@ -12,12 +12,12 @@ returns-2 : tie.Need-returns-2
 unfolding gate
 returns-2 c = simp (le-ltb _ _ (c .before .if1 .left), lt-ltb _ _ (c .if2 .taken))
 
-frame-check-requires : tie.Need-frame-check-requires
-frame-check-requires c κs = search needs
+reply-check-requires : tie.Need-reply-check-requires
+reply-check-requires c κs = search needs
 
 returns-3 : tie.Need-returns-3
 unfolding gate
-returns-3 c = simp (le-ltb _ _ (c .before .before .if1 .left), le-ltb _ _ (c .before .if2 .left)) (c .frame-check .ensures)
+returns-3 c = simp (le-ltb _ _ (c .before .before .if1 .left), le-ltb _ _ (c .before .if2 .left)) (c .reply-check .ensures)
 
 pub one-frame-check-spec : {M : Type 1} → statement M
-one-frame-check-spec = tie.close (tie.spec returns returns-2 frame-check-requires returns-3)
+one-frame-check-spec = tie.close (tie.spec returns returns-2 reply-check-requires returns-3)

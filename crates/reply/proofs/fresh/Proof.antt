@@ -1,4 +1,5 @@
 use Rattle.reply.proofs.Steps.{size-few}
+use mathlib.Core.Bool.{false}
 use Rattle.reader.specs.Told.{freshCounts}
 use Prim.Native.Nat.{ℕ, _+_, _/_}
 use mathlib.Core.Path.{ap}
@@ -16,7 +17,7 @@ add-t4 c =
     record { fits = omega (arith, size-few (a .command) (a .count) (c .before .fits .count .fits), c .reply-size .ensures) }
 
 returns : tie.Need-returns
-returns c = ap (λ (z : ℕ). freshCounts (c .before .args .command) ((z + 12) / 13)) (c .reply-size .ensures)
+returns c = ap (λ (z : ℕ). freshCounts (c .before .args .command) ((z + 12) / 13) false) (c .reply-size .ensures)
 
 pub fresh-spec : {M : Type 1} → statement M
 fresh-spec = tie.close (tie.spec reply-size-requires add-t4 returns)

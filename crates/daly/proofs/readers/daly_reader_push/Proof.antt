@@ -156,18 +156,18 @@ turn-is r u is = LL.owed S.the-type S′.the-laws r (u ∷ []) is .0
 -- the numbers that are stored: those of before where no push changes them
 abbrev next : Counts → Counts → Counts
 next m n =
-    record { command = m .command; mark = n .mark; taken = n .taken; discarded = n .discarded; cleared = n .cleared; wanted = m .wanted; collected = n .collected; held = n .held }
+    record { command = m .command; mark = n .mark; strict = m .strict; taken = n .taken; discarded = n .discarded; cleared = n .cleared; wanted = m .wanted; collected = n .collected; held = n .held }
 
 next-is : (m n : Counts) → Is N.the-row m (lowN m ∷ []) → Is N.the-row n (lowN n ∷ []) → Is N.the-row (next m n) (lowN (next m n) ∷ [])
 next-is m n im is =
     let a = LL.owed N.the-type N′.the-laws m (lowN m ∷ []) im in
     let b = LL.owed N.the-type N′.the-laws n (lowN n ∷ []) is in
-    LL.owes N.the-type N′.the-laws (next m n) (a .0, (b .1 .0, (b .1 .1 .0, (b .1 .1 .1 .0, (b .1 .1 .1 .1 .0, (a .1 .1 .1 .1 .1 .0, (b .1 .1 .1 .1 .1 .1 .0, (b .1 .1 .1 .1 .1 .1 .1 .0, tt))))))))
+    LL.owes N.the-type N′.the-laws (next m n) (a .0, (b .1 .0, (a .1 .1 .0, (b .1 .1 .1 .0, (b .1 .1 .1 .1 .0, (b .1 .1 .1 .1 .1 .0, (a .1 .1 .1 .1 .1 .1 .0, (b .1 .1 .1 .1 .1 .1 .1 .0, (b .1 .1 .1 .1 .1 .1 .1 .1 .0, tt)))))))))
 
 next-same : (f : List ℕ) (m : Counts) (s : List ℕ) (t : Turn) (n : Counts) (f′ : List ℕ) → TurnedInto f m s t n f′ → next m n ≡ n
 next-same f m s t n f′ e =
     let k = asked-stays f m s (t .status) (t .took) n f′ (e .answered) in
-    λ i. record { command = k .0 i; mark = n .mark; taken = n .taken; discarded = n .discarded; cleared = n .cleared; wanted = k .1 i; collected = n .collected; held = n .held }
+    λ i. record { command = k .0 i; mark = n .mark; strict = k .1 i; taken = n .taken; discarded = n .discarded; cleared = n .cleared; wanted = k .2 i; collected = n .collected; held = n .held }
 
 -- what closing the borrow asks
 made : (m : Counts) (ys : List ℕ) → Is N.the-row m (lowN m ∷ []) → Is Arr ys (lowA ys ∷ []) → Is T.the-row (record { counts = m; frames = ys }) (mach m (lowA (same ys)) ∷ [])
@@ -275,11 +275,11 @@ module _ {M : Type 1} (𝓤 : URA M) (H : Heap 𝓤) (A : Atoms 𝓤) (W : Given
         move ! (0 ∷ 5 ∷ []) $ use2 W (cell (lowA (zs .0))) (back-in (lowA (zs .0))) $
         -- [the reader's cell; the chunk's token; the answer; …; the chunk's; what the reader owned; the open borrow; obs; auth; _5; …; _4; …; _3; …; _2; …; _1; …; _0; …]
         assigns ! (of-opd ! (load ! (from ! (fld ! refl (fld ! refl (stop !)))) (look-in ! 13 (sub ! 1 refl (sub ! 1 refl (whole !)))))) (from ! (hop ! (look ! 17 refl) (fld ! refl (fld ! refl (stop !))))) (store-in ! 0 (sub ! 1 refl (sub ! 0 refl (whole !))) (bool-lawful 𝓤 H A W .typed (r .counts .mark) _ (LL.owed N.the-type N′.the-laws (r .counts) (lowN (r .counts) ∷ []) (counts-is r u is) .1 .0) .0)) $
-        assigns ! (of-opd ! (load ! (from ! (fld ! refl (fld ! refl (stop !)))) (look-in ! 13 (sub ! 2 refl (sub ! 1 refl (whole !)))))) (from ! (hop ! (look ! 17 refl) (fld ! refl (fld ! refl (stop !))))) (store-in ! 0 (sub ! 2 refl (sub ! 0 refl (whole !))) (uint-lawful 𝓤 H A W w32 .typed (r .counts .taken) _ (LL.owed N.the-type N′.the-laws (r .counts) (lowN (r .counts) ∷ []) (counts-is r u is) .1 .1 .0) .0)) $
-        assigns ! (of-opd ! (load ! (from ! (fld ! refl (fld ! refl (stop !)))) (look-in ! 13 (sub ! 3 refl (sub ! 1 refl (whole !)))))) (from ! (hop ! (look ! 17 refl) (fld ! refl (fld ! refl (stop !))))) (store-in ! 0 (sub ! 3 refl (sub ! 0 refl (whole !))) (uint-lawful 𝓤 H A W w32 .typed (r .counts .discarded) _ (LL.owed N.the-type N′.the-laws (r .counts) (lowN (r .counts) ∷ []) (counts-is r u is) .1 .1 .1 .0) .0)) $
-        assigns ! (of-opd ! (load ! (from ! (fld ! refl (fld ! refl (stop !)))) (look-in ! 13 (sub ! 4 refl (sub ! 1 refl (whole !)))))) (from ! (hop ! (look ! 17 refl) (fld ! refl (fld ! refl (stop !))))) (store-in ! 0 (sub ! 4 refl (sub ! 0 refl (whole !))) (uint-lawful 𝓤 H A W w32 .typed (r .counts .cleared) _ (LL.owed N.the-type N′.the-laws (r .counts) (lowN (r .counts) ∷ []) (counts-is r u is) .1 .1 .1 .1 .0) .0)) $
-        assigns ! (of-opd ! (load ! (from ! (fld ! refl (fld ! refl (stop !)))) (look-in ! 13 (sub ! 6 refl (sub ! 1 refl (whole !)))))) (from ! (hop ! (look ! 17 refl) (fld ! refl (fld ! refl (stop !))))) (store-in ! 0 (sub ! 6 refl (sub ! 0 refl (whole !))) (uint-lawful 𝓤 H A W w64 .typed (r .counts .collected) _ (LL.owed N.the-type N′.the-laws (r .counts) (lowN (r .counts) ∷ []) (counts-is r u is) .1 .1 .1 .1 .1 .1 .0) .0)) $
-        assigns ! (of-opd ! (load ! (from ! (fld ! refl (fld ! refl (stop !)))) (look-in ! 13 (sub ! 7 refl (sub ! 1 refl (whole !)))))) (from ! (hop ! (look ! 17 refl) (fld ! refl (fld ! refl (stop !))))) (store-in ! 0 (sub ! 7 refl (sub ! 0 refl (whole !))) (uint-lawful 𝓤 H A W w64 .typed (r .counts .held) _ (LL.owed N.the-type N′.the-laws (r .counts) (lowN (r .counts) ∷ []) (counts-is r u is) .1 .1 .1 .1 .1 .1 .1 .0) .0)) $
+        assigns ! (of-opd ! (load ! (from ! (fld ! refl (fld ! refl (stop !)))) (look-in ! 13 (sub ! 3 refl (sub ! 1 refl (whole !)))))) (from ! (hop ! (look ! 17 refl) (fld ! refl (fld ! refl (stop !))))) (store-in ! 0 (sub ! 3 refl (sub ! 0 refl (whole !))) (uint-lawful 𝓤 H A W w32 .typed (r .counts .taken) _ (LL.owed N.the-type N′.the-laws (r .counts) (lowN (r .counts) ∷ []) (counts-is r u is) .1 .1 .1 .0) .0)) $
+        assigns ! (of-opd ! (load ! (from ! (fld ! refl (fld ! refl (stop !)))) (look-in ! 13 (sub ! 4 refl (sub ! 1 refl (whole !)))))) (from ! (hop ! (look ! 17 refl) (fld ! refl (fld ! refl (stop !))))) (store-in ! 0 (sub ! 4 refl (sub ! 0 refl (whole !))) (uint-lawful 𝓤 H A W w32 .typed (r .counts .discarded) _ (LL.owed N.the-type N′.the-laws (r .counts) (lowN (r .counts) ∷ []) (counts-is r u is) .1 .1 .1 .1 .0) .0)) $
+        assigns ! (of-opd ! (load ! (from ! (fld ! refl (fld ! refl (stop !)))) (look-in ! 13 (sub ! 5 refl (sub ! 1 refl (whole !)))))) (from ! (hop ! (look ! 17 refl) (fld ! refl (fld ! refl (stop !))))) (store-in ! 0 (sub ! 5 refl (sub ! 0 refl (whole !))) (uint-lawful 𝓤 H A W w32 .typed (r .counts .cleared) _ (LL.owed N.the-type N′.the-laws (r .counts) (lowN (r .counts) ∷ []) (counts-is r u is) .1 .1 .1 .1 .1 .0) .0)) $
+        assigns ! (of-opd ! (load ! (from ! (fld ! refl (fld ! refl (stop !)))) (look-in ! 13 (sub ! 7 refl (sub ! 1 refl (whole !)))))) (from ! (hop ! (look ! 17 refl) (fld ! refl (fld ! refl (stop !))))) (store-in ! 0 (sub ! 7 refl (sub ! 0 refl (whole !))) (uint-lawful 𝓤 H A W w64 .typed (r .counts .collected) _ (LL.owed N.the-type N′.the-laws (r .counts) (lowN (r .counts) ∷ []) (counts-is r u is) .1 .1 .1 .1 .1 .1 .1 .0) .0)) $
+        assigns ! (of-opd ! (load ! (from ! (fld ! refl (fld ! refl (stop !)))) (look-in ! 13 (sub ! 8 refl (sub ! 1 refl (whole !)))))) (from ! (hop ! (look ! 17 refl) (fld ! refl (fld ! refl (stop !))))) (store-in ! 0 (sub ! 8 refl (sub ! 0 refl (whole !))) (uint-lawful 𝓤 H A W w64 .typed (r .counts .held) _ (LL.owed N.the-type N′.the-laws (r .counts) (lowN (r .counts) ∷ []) (counts-is r u is) .1 .1 .1 .1 .1 .1 .1 .1 .0) .0)) $
         assigns ! (of-opd ! (load ! (from ! (fld ! refl (stop !))) (look-in ! 13 (sub ! 0 refl (whole !))))) (from ! (stop !)) (init ! 19 refl (LL.lawful U.the-type U′.the-laws 𝓤 H A W .typed (r .turn) _ (turn-is r u is) .0)) $
         -- the borrow is closed at the new reader
         rewrite ! 0 (λ (l : List ℕ). ‵ (fat fullShare T′.mir b o (mach (next m (r .counts)) (lowA l)))) (sym (map-id (zs .0))) refl $

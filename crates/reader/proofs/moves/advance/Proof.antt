@@ -35,8 +35,8 @@ copy-requires c κs =
     let z = s .pre .3 (omega (arith, e .if1 .left)) in
     (omega (arith, z, s .pre .1, c .before .if2 .taken), omega arith)
 
-add-t15 : tie.Need-add-t15
-add-t15 c = search needs
+add-t16 : tie.Need-add-t16
+add-t16 c = search needs
 
 returns-2 : tie.Need-returns-2
 returns-2 c =
@@ -47,7 +47,7 @@ returns-2 c =
     let b : a .held + length (a .chunk .now) ≤ 12 = omega (arith, c .before .before .if2 .taken) in
     let g = held-more (a .frames .now) (a .chunk .now) (a .collected) (a .held) (omega (arith, s .pre .3 z, s .pre .1)) b in
     rw (c .copy .ensures)
-    (moves-append (config (a .command) (a .wanted)) (a .collected) (a .count) (a .frames .now) (paste (a .frames .now) (13 * a .collected + a .held) (a .chunk .now) (length (a .chunk .now))) (a .chunk .now)
+    (moves-append (config (a .command) (a .wanted) (a .strict)) (a .collected) (a .count) (a .frames .now) (paste (a .frames .now) (13 * a .collected + a .held) (a .chunk .now) (length (a .chunk .now))) (a .chunk .now)
     (a .held) (a .held + length (a .chunk .now)) (s .pre .3 z) z b (s .pre .4 z) (omega arith) (g .0) (g .1))
 
 bridged-requires : tie.Need-bridged-requires
@@ -69,7 +69,7 @@ advance-spec =
     mul-copy
     add-copy
     copy-requires
-    add-t15
+    add-t16
     returns-2
     bridged-requires
     returns-3)

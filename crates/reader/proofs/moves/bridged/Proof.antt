@@ -35,7 +35,7 @@ hold-bridge-requires c κs =
     let e = b .bridge .ensures .0 in
     let lm = length-take (b .bridge .result) (b .bridge .last .1 .1 .1 .1 .0) in
     let u = within-short _ _ f (a .chunk .now) _ _ _ _
-    (is-open (config (a .command) (a .wanted)) (a .collected) (a .frames .now) (pre .1)) (omega (arith, pre .0)) (rw e at (s .scan .ensures)) (omega (arith, c .before .before .if1 .taken)) in (
+    (is-open (config (a .command) (a .wanted) (a .strict)) (a .collected) (a .frames .now) (pre .1)) (omega (arith, pre .0)) (rw e at (s .scan .ensures)) (omega (arith, c .before .before .if1 .taken)) in (
       omega (arith, pre .0, c .before .before .if1 .taken),
       omega (arith, s .scan .ensures .within, lm),
       omega (arith, ran-short _ _ _ _ _ _ _ _ (s .scan .ensures) (u .0), lm),
@@ -53,7 +53,7 @@ returns c =
     let lf : length f ≡ a .held = length-front (a .held) (drop (13 * a .collected) (a .frames .now)) in
     let e = b .bridge .ensures .0 in
     moves-within _ _ f (a .chunk .now) _ _ _ _
-    (is-open (config (a .command) (a .wanted)) (a .collected) (a .frames .now) (pre .1)) (omega (arith, pre .0)) (rw e at (s .scan .ensures))
+    (is-open (config (a .command) (a .wanted) (a .strict)) (a .collected) (a .frames .now) (pre .1)) (omega (arith, pre .0)) (rw e at (s .scan .ensures))
     (c .hold-bridge .last .1 .1 .1 .0) (c .hold-bridge .result) (omega (arith, c .before .before .before .if1 .taken)) (rw e at (c .hold-bridge .ensures .0)) (c .hold-bridge .ensures .1)
 
 direct-requires : tie.Need-direct-requires
@@ -68,8 +68,8 @@ direct-requires c κs =
       pre .2,
     )
 
-add-t25 : tie.Need-add-t25
-add-t25 c =
+add-t26 : tie.Need-add-t26
+add-t26 c =
     let d = c .before .before in
     let s = d .before .before .before in
     let b = s .before .before .before in
@@ -87,7 +87,7 @@ returns-2 c =
     let lf : length f ≡ a .held = length-front (a .held) (drop (13 * a .collected) (a .frames .now)) in
     let e = b .bridge .ensures .0 in
     moves-across _ _ f (a .chunk .now) _ _ _ _
-    (is-open (config (a .command) (a .wanted)) (a .collected) (a .frames .now) (pre .1)) (omega (arith, pre .0)) (rw e at (s .scan .ensures))
+    (is-open (config (a .command) (a .wanted) (a .strict)) (a .collected) (a .frames .now) (pre .1)) (omega (arith, pre .0)) (rw e at (s .scan .ensures))
     (s .scan .result .at - a .held) (d .direct .last .0) (d .direct .result) (omega (arith, d .before .before .if1 .left)) (d .direct .ensures .0)
 
 pub bridged-spec : {M : Type 1} → statement M
@@ -101,5 +101,5 @@ bridged-spec =
     hold-bridge-requires
     returns
     direct-requires
-    add-t25
+    add-t26
     returns-2)

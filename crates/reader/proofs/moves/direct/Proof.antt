@@ -10,8 +10,8 @@ sub-if2 c = search needs
 is-noise-requires : tie.Need-is-noise-requires
 is-noise-requires c κs = search needs
 
-sub-t19 : tie.Need-sub-t19
-sub-t19 c = search needs
+sub-t20 : tie.Need-sub-t20
+sub-t20 c = search needs
 
 returns : tie.Need-returns
 returns c =
@@ -57,7 +57,7 @@ direct-spec =
     (tie.spec
     sub-if2
     is-noise-requires
-    sub-t19
+    sub-t20
     returns
     scan-requires
     returns-2

@@ -2,7 +2,7 @@ use native.Mathlib.Omega.{arith}
 use borrow.Author.Needs.{needs}
 use mathlib.Core.Path.{sym, _∙_}
 use Rattle.reader.specs.View.{config}
-use Rattle.reader.proofs.Judge.{due-sum, due-command, due-one, due-first, due-number, due-place}
+use Rattle.reader.proofs.Judge.{due-sum, due-command, due-echo, due-one, due-first, due-number, due-place}
 use Rattle.reader.proofs.scan.discards.Statement.{statement}
 use Rattle.reader.proofs.scan.discards.Tie as tie
 
@@ -16,7 +16,7 @@ returns : tie.Need-returns
 returns c =
     let k = c .before .before in
     let s = k .before .before in
-    let a = s .args in (due-sum (config (a .command) (a .wanted)) (a .have) (a .w .now) (s .pre .0) (λ z. c .if1 .taken (z ∙ sym (k .calc-crc .ensures))), omega arith)
+    let a = s .args in (due-sum (config (a .command) (a .wanted) (a .strict)) (a .have) (a .w .now) (s .pre .0) (λ z. c .if1 .taken (z ∙ sym (k .calc-crc .ensures))), omega arith)
 
 shared-slice-read-if2 : tie.Need-shared-slice-read-if2
 shared-slice-read-if2 c = search needs
@@ -26,49 +26,69 @@ returns-2 c =
     let e = c .before .before in
     let k = e .before .before in
     let s = k .before .before in
-    let a = s .args in (due-command (config (a .command) (a .wanted)) (a .have) (a .w .now) (s .pre .0) (e .if1 .left ∙ k .calc-crc .ensures) (c .if2 .taken), omega arith)
+    let a = s .args in (due-command (config (a .command) (a .wanted) (a .strict)) (a .have) (a .w .now) (s .pre .0) (e .if1 .left ∙ k .calc-crc .ensures) (c .if2 .taken), omega arith)
+
+is-echo-requires : tie.Need-is-echo-requires
+is-echo-requires c κs = search needs
 
 returns-3 : tie.Need-returns-3
 returns-3 c =
-    let e = c .before .before .before in
+    let i = c .before in
+    let t = i .before in
+    let e = t .before .before in
     let k = e .before .before in
     let s = k .before .before in
-    let a = s .args in (due-one (config (a .command) (a .wanted)) (a .have) (a .w .now) (s .pre .0) (e .if1 .left ∙ k .calc-crc .ensures) (c .before .if2 .left) (c .if3 .taken), omega arith)
+    let a = s .args in (due-echo (config (a .command) (a .wanted) (a .strict)) (a .have) (a .w .now) (s .pre .0) (e .if1 .left ∙ k .calc-crc .ensures) (t .if2 .left) (sym (i .is-echo .ensures) ∙ c .if3 .taken), omega arith)
+
+returns-4 : tie.Need-returns-4
+returns-4 c =
+    let i = c .before .before in
+    let t = i .before in
+    let e = t .before .before in
+    let k = e .before .before in
+    let s = k .before .before in
+    let a = s .args in (due-one (config (a .command) (a .wanted) (a .strict)) (a .have) (a .w .now) (s .pre .0) (e .if1 .left ∙ k .calc-crc .ensures) (t .if2 .left) (sym (i .is-echo .ensures) ∙ c .before .if3 .left) (c .if4 .taken), omega arith)
 
 shared-slice-read-number : tie.Need-shared-slice-read-number
 shared-slice-read-number c = search needs
 
-returns-4 : tie.Need-returns-4
-returns-4 c =
-    let o = c .before .before in
-    let e = o .before .before .before in
-    let k = e .before .before in
-    let s = k .before .before in
-    let a = s .args in (due-first (config (a .command) (a .wanted)) (a .have) (a .w .now) (s .pre .0) (e .if1 .left ∙ k .calc-crc .ensures) (o .before .if2 .left) (o .if3 .left) (c .if4 .taken), omega arith)
-
-add-if5 : tie.Need-add-if5
-add-if5 c = search needs
-
-cast-if5 : tie.Need-cast-if5
-cast-if5 c = search needs
-
 returns-5 : tie.Need-returns-5
 returns-5 c =
-    let f = c .before in
-    let o = f .before .before in
-    let e = o .before .before .before in
+    let o = c .before .before in
+    let i = o .before .before in
+    let t = i .before in
+    let e = t .before .before in
     let k = e .before .before in
     let s = k .before .before in
-    let a = s .args in (due-number (config (a .command) (a .wanted)) (a .have) (a .w .now) (s .pre .0) (e .if1 .left ∙ k .calc-crc .ensures) (o .before .if2 .left) (o .if3 .left) (f .if4 .left) (c .if5 .taken), omega arith)
+    let a = s .args in (due-first (config (a .command) (a .wanted) (a .strict)) (a .have) (a .w .now) (s .pre .0) (e .if1 .left ∙ k .calc-crc .ensures) (t .if2 .left) (sym (i .is-echo .ensures) ∙ o .before .if3 .left) (o .if4 .left) (c .if5 .taken), omega arith)
+
+add-if6 : tie.Need-add-if6
+add-if6 c = search needs
+
+cast-if6 : tie.Need-cast-if6
+cast-if6 c = search needs
 
 returns-6 : tie.Need-returns-6
 returns-6 c =
     let f = c .before in
     let o = f .before .before in
-    let e = o .before .before .before in
+    let i = o .before .before in
+    let t = i .before in
+    let e = t .before .before in
     let k = e .before .before in
     let s = k .before .before in
-    let a = s .args in (due-place (config (a .command) (a .wanted)) (a .have) (a .w .now) (s .pre .0) (e .if1 .left ∙ k .calc-crc .ensures) (o .before .if2 .left) (o .if3 .left) (f .if4 .left) (c .if5 .left), omega arith)
+    let a = s .args in (due-number (config (a .command) (a .wanted) (a .strict)) (a .have) (a .w .now) (s .pre .0) (e .if1 .left ∙ k .calc-crc .ensures) (t .if2 .left) (sym (i .is-echo .ensures) ∙ o .before .if3 .left) (o .if4 .left) (f .if5 .left) (c .if6 .taken), omega arith)
+
+returns-7 : tie.Need-returns-7
+returns-7 c =
+    let f = c .before in
+    let o = f .before .before in
+    let i = o .before .before in
+    let t = i .before in
+    let e = t .before .before in
+    let k = e .before .before in
+    let s = k .before .before in
+    let a = s .args in (due-place (config (a .command) (a .wanted) (a .strict)) (a .have) (a .w .now) (s .pre .0) (e .if1 .left ∙ k .calc-crc .ensures) (t .if2 .left) (sym (i .is-echo .ensures) ∙ o .before .if3 .left) (o .if4 .left) (f .if5 .left) (c .if6 .left), omega arith)
 
 pub discards-spec : {M : Type 1} → statement M
 discards-spec =
@@ -79,10 +99,12 @@ discards-spec =
     returns
     shared-slice-read-if2
     returns-2
+    is-echo-requires
     returns-3
-    shared-slice-read-number
     returns-4
-    add-if5
-    cast-if5
+    shared-slice-read-number
     returns-5
-    returns-6)
+    add-if6
+    cast-if6
+    returns-6
+    returns-7)

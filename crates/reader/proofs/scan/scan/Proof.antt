@@ -12,15 +12,15 @@ use Rattle.reader.proofs.scan.scan.Statement.{statement}
 use Rattle.reader.proofs.scan.scan.Tie as tie
 
 abbrev Inv-loop : tie.InvT-loop
-Inv-loop s from frames₀ command wanted collected count end at₀ lost₀ have₀ cleared₀ frames at lost have cleared =
-    Here (config command wanted) (run (config command wanted) (chop collected frames₀) (drop from s)) count s frames have at lost cleared
+Inv-loop s from frames₀ command strict wanted collected count end at₀ lost₀ have₀ cleared₀ frames at lost have cleared =
+    Here (config command wanted strict) (run (config command wanted strict) (chop collected frames₀) (drop from s)) count s frames have at lost cleared
     × (at ≤ length s)
     × (lost ≤ at)
     × (have ≤ wanted)
     × (cleared < 4294967296)
 
 abbrev μ-loop : tie.MeasureT-loop
-μ-loop s from frames₀ command wanted collected count end at₀ lost₀ have₀ cleared₀ frames at lost have cleared = length s - at
+μ-loop s from frames₀ command strict wanted collected count end at₀ lost₀ have₀ cleared₀ frames at lost have cleared = length s - at
 
 loop-holds : tie.Need-loop-holds Inv-loop μ-loop
 loop-holds c = (ahead-start _ _, omega arith, omega arith, omega arith, omega arith)
@@ -90,11 +90,11 @@ part-staying-end c = search needs
 staying-requires : tie.Need-staying-requires Inv-loop μ-loop
 staying-requires c κs = search needs
 
-mul-copy : tie.Need-mul-copy Inv-loop μ-loop
-mul-copy c = search needs
+mul-put : tie.Need-mul-put Inv-loop μ-loop
+mul-put c = search needs
 
-copy-requires : tie.Need-copy-requires Inv-loop μ-loop
-copy-requires c κs = search needs
+put-requires : tie.Need-put-requires Inv-loop μ-loop
+put-requires c κs = search needs
 
 sub-add-count : tie.Need-sub-add-count Inv-loop μ-loop
 sub-add-count c = search needs
@@ -121,12 +121,12 @@ loop-again-2 c =
     let d = k .before .discards .ensures in
     let st = c .before .before .before .staying .ensures in
     let b : l .at + 13 ≤ length (a .s .now) = omega (arith, k .before .before .before .if3 .left) in
-    let full : length (l .frames) ≡ 1105 = c .before .before .copy-arg .given .0 .1 in
+    let full : length (l .frames) ≡ 1105 = c .before .before .put-arg .given .0 .1 in
     let room : 13 * c .before .before .before .staying .result + 13 ≤ length (l .frames) = omega (arith, full, e .if1 .left, st .1) in (
       here-collected _ _ _ (a .s .now) _ _ (l .at) _ _ (l .inv .0)
           (e .if1 .left) b (i .if2 .left)
-          (c .before .before .before .staying .result) (c .add-count .result) (c .before .copy .last .0)
-          (sym (k .if4 .taken) ∙ d .0) (st .0) (c .before .copy .ensures) room (c .add-count .ensures),
+          (c .before .before .before .staying .result) (c .add-count .result) (c .before .put .last .0)
+          (sym (k .if4 .taken) ∙ d .0) (st .0) (c .before .put .ensures) room (c .add-count .ensures),
       b,
       omega (arith, l .inv .2),
       omega (arith, e .if1 .left, st .1),
@@ -164,7 +164,7 @@ returns c =
     let l = c .before .loop in
     let a = c .before .before .before .args in
     here-end _ _ _ (a .s .now) _ _ (l .at) _ _ (l .inv .0) (a .wanted)
-    (end-bytes (config (a .command) (a .wanted)) (a .s .now) (l .frames) (l .have) (l .at) (c .loop-test .left))
+    (end-bytes (config (a .command) (a .wanted) (a .strict)) (a .s .now) (l .frames) (l .have) (l .at) (c .loop-test .left))
     (l .inv .1) (l .inv .2) (l .inv .3) (l .inv .4)
 
 returns-2 : tie.Need-returns-2 Inv-loop μ-loop
@@ -172,7 +172,7 @@ returns-2 c =
     let l = c .before .before .loop in
     let a = c .before .before .before .before .args in
     here-end _ _ _ (a .s .now) _ _ (l .at) _ _ (l .inv .0) (a .wanted)
-    (end-complete (config (a .command) (a .wanted)) (a .s .now) (l .frames) (l .have) (l .at) (c .if1 .taken))
+    (end-complete (config (a .command) (a .wanted) (a .strict)) (a .s .now) (l .frames) (l .have) (l .at) (c .if1 .taken))
     (l .inv .1) (l .inv .2) (l .inv .3) (l .inv .4)
 
 returns-3 : tie.Need-returns-3 Inv-loop μ-loop
@@ -181,7 +181,7 @@ returns-3 c =
     let l = e .before .before .loop in
     let a = e .before .before .before .before .args in
     here-end _ _ _ (a .s .now) _ _ (l .at) _ _ (l .inv .0) (a .wanted)
-    (end-short (config (a .command) (a .wanted)) (a .s .now) (l .frames) (l .have) (l .at) (e .if1 .left) (c .if3 .taken) (c .before .if2 .left))
+    (end-short (config (a .command) (a .wanted) (a .strict)) (a .s .now) (l .frames) (l .have) (l .at) (e .if1 .left) (c .if3 .taken) (c .before .if2 .left))
     (l .inv .1) (l .inv .2) (l .inv .3) (l .inv .4)
 
 pub scan-spec : {M : Type 1} → statement M
@@ -209,8 +209,8 @@ scan-spec =
     part-staying-start
     part-staying-end
     staying-requires
-    mul-copy
-    copy-requires
+    mul-put
+    put-requires
     sub-add-count
     add-count-requires
     add-have

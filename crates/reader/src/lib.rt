@@ -101,6 +101,23 @@ pub struct Completed {
     pub complete: bool,
 }
 
+// The numbers as they were: field by field, since a copy of the whole would carry the byte of padding behind `strict` through every push.
+fn as_given(c: Counts) -> Counts
+    ensures { λ r. ⌜ r ≡ c ⌝ }
+{
+    Counts {
+        command: c.command,
+        mark: c.mark,
+        strict: c.strict,
+        taken: c.taken,
+        discarded: c.discarded,
+        cleared: c.cleared,
+        wanted: c.wanted,
+        collected: c.collected,
+        held: c.held,
+    }
+}
+
 // A push on the frames, lent, and the numbers by value: the core, which copies no frame that it does not collect.
 pub fn push_into(frames: &mut [u8; 1105], c: Counts, chunk: &[u8]) -> Told
     ensures { λ r. ⌜ Answered (now (frames .entry)) c (now (chunk .entry)) (r .said .status) (r .said .took) (r .counts) (now (frames .exit)) ⌝ }
@@ -108,7 +125,7 @@ pub fn push_into(frames: &mut [u8; 1105], c: Counts, chunk: &[u8]) -> Told
     if state::state_number(frames, c) != 0 {
         return Told {
             said: Said { status: 8, took: 0 },
-            counts: c,
+            counts: as_given(c),
         };
     }
     let m = advance(

@@ -7,10 +7,15 @@ use Rattle.reader.proofs.push_into.Tie as tie
 state-number-requires : tie.Need-state-number-requires
 state-number-requires c κs = search needs
 
+as-given-requires : tie.Need-as-given-requires
+as-given-requires c κs = search needs
+
 returns : tie.Need-returns
 returns c =
-    let a = c .before .before .before .before .args in
-    answered-bad (a .frames .now) (a .c) (a .chunk .now) (is-refused (a .c) (a .frames .now) (c .before .state-number .result) (c .before .state-number .ensures) (c .if1 .taken))
+    let e = c .before in
+    let a = e .before .before .before .before .args in
+    rw (c .as-given .ensures)
+    (answered-bad (a .frames .now) (a .c) (a .chunk .now) (is-refused (a .c) (a .frames .now) (e .before .state-number .result) (e .before .state-number .ensures) (e .if1 .taken)))
 
 advance-requires : tie.Need-advance-requires
 advance-requires c κs =
@@ -49,6 +54,7 @@ push-into-spec =
     tie.close
     (tie.spec
     state-number-requires
+    as-given-requires
     returns
     advance-requires
     passed-requires

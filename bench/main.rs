@@ -18,6 +18,13 @@ const CALLS: u32 = 5_000;
 
 #[allow(dead_code)]
 #[repr(C)]
+struct FrameKindTold {
+    number: u8,
+    echo: bool,
+}
+
+#[allow(dead_code)]
+#[repr(C)]
 struct SocTold {
     number: u8,
     fields: [f32; 3],
@@ -55,7 +62,7 @@ struct ListTold {
 }
 
 extern "C" {
-    fn daly_frame_check(p: *const u8, len: usize, command: u8) -> u8;
+    fn daly_frame_check(p: *const u8, len: usize, command: u8) -> FrameKindTold;
     fn daly_request(command: u8, enable: bool, soc_percent: f32, out: *mut [u8; 13]) -> u8;
     fn daly_soc(p: *const u8, len: usize) -> SocTold;
     fn daly_cell_voltage_range(p: *const u8, len: usize) -> CellVoltageRangeTold;
@@ -176,7 +183,7 @@ fn record<T, U>(
 }
 
 /// The four replies that are only checked are this check with their command.
-unsafe extern "C" fn reset_check(p: *const u8, len: usize) -> u8 {
+unsafe extern "C" fn reset_check(p: *const u8, len: usize) -> FrameKindTold {
     // SAFETY: the caller's.
     unsafe { daly_frame_check(p, len, 0x00) }
 }

@@ -1,7 +1,7 @@
 //! The reader: a stream in chunks of one size, through the Rust's `push` and the port's.
 
 use crate::frames::reply;
-use dalybms_lib::protocol::{Address, CellVoltages, FrameReader, Soc};
+use dalybms_lib::protocol::{Address, CellVoltageRange, CellVoltages, FrameReader, Soc};
 use std::hint::black_box;
 use std::time::Instant;
 
@@ -19,6 +19,7 @@ const MIB: usize = 1 << 20;
 pub struct Counts {
     command: u8,
     mark: bool,
+    strict: bool,
     taken: u32,
     discarded: u32,
     cleared: u32,
@@ -84,24 +85,36 @@ struct Case {
     command: u8,
     wanted: usize,
     reply: usize,
+    strict: bool,
     stream: Vec<u8>,
+    /// What the Rust reads, where it is another.
+    exchanged: Option<Vec<u8>>,
 }
 
 impl Case {
     fn fresh(&self) -> Counts {
         Counts {
             command: self.command,
+            strict: self.strict,
             wanted: self.wanted,
             ..Counts::default()
         }
     }
 
-    fn rust(&self, size: usize) {
-        let request = match self.command {
+    fn request(&self) -> Vec<u8> {
+        match self.command {
             0x90 => Soc::request(Address::Host),
             _ => CellVoltages::request(Address::Host),
-        };
-        for reply in self.stream.chunks(self.reply) {
+        }
+    }
+
+    fn rust_stream(&self) -> &[u8] {
+        self.exchanged.as_ref().unwrap_or(&self.stream)
+    }
+
+    fn rust(&self, size: usize) {
+        let request = self.request();
+        for reply in self.rust_stream().chunks(self.reply) {
             let mut reader = FrameReader::new(&request, self.wanted * 13);
             for chunk in reply.chunks(size) {
                 let _ = black_box(reader.push(black_box(chunk)));
@@ -209,13 +222,34 @@ fn drawn(len: usize) -> Vec<u8> {
     (0..len).map(|_| next()).collect()
 }
 
+/// Our own question and the reply in turns, as a two-wire line has them. The Rust has no strict mode: in the question's
+/// place it gets that of another command, which it throws away whole.
+fn echoes(len: usize) -> Case {
+    let frame = reply(0x90, 1, None);
+    let turns = |question: Vec<u8>| {
+        let turn = [question, frame.clone()].concat();
+        repeated(&turn, len / turn.len() * turn.len())
+    };
+    Case {
+        name: "echo and reply",
+        command: 0x90,
+        wanted: 1,
+        reply: 26,
+        strict: true,
+        stream: turns(Soc::request(Address::Host)),
+        exchanged: Some(turns(CellVoltageRange::request(Address::Host))),
+    }
+}
+
 fn cases(len: usize) -> Vec<Case> {
     let case = |name, command, wanted, reply, stream| Case {
         name,
         command,
         wanted,
         reply,
+        strict: false,
         stream,
+        exchanged: None,
     };
     let cells = reply(0x95, 85, None);
     let whole = |part: usize| len / part * part;
@@ -245,6 +279,7 @@ fn cases(len: usize) -> Vec<Case> {
         case("drawn", 0x90, 1, len, drawn(len)),
         case("all A5", 0x90, 1, len, vec![0xA5; len]),
         case("zeros", 0x90, 1, len, vec![0; len]),
+        echoes(len),
     ]
 }
 
@@ -317,7 +352,20 @@ fn head(first: &[&str], more: impl Iterator<Item = String>) {
     );
 }
 
+/// Both sides throw 13 bytes away and collect the frame behind them: what is timed is the same work.
+fn same_turns() {
+    let case = echoes(26);
+    let (mut reader, mut rust) = (Reader::default(), FrameReader::new(&case.request(), 13));
+    case.begin(&mut reader);
+    // SAFETY: the reader is alive and lent to nobody else, and the stream is so long.
+    unsafe { daly_reader_push(&mut reader, case.stream.as_ptr(), case.stream.len()) };
+    assert!(rust.push(case.rust_stream()).is_ok());
+    assert_eq!((reader.counts.taken, reader.counts.discarded), (26, 13));
+    assert_eq!(reader.frames[..13], rust.into_bytes());
+}
+
 pub fn table() {
+    same_turns();
     let forms = FORMS.iter().map(|(name, _)| name.to_string());
     head(&["stream", "chunk", "Rust, ns a byte"], forms);
     let long = cases(MIB);

@@ -1,4 +1,5 @@
-/* A whole reading of cells by the C functions, as examples/controller.c has it: bench/reading.rs calls it. */
+/* A whole reading of cells by the C functions, as examples/controller.c has it, but not strict, since the Rust is not:
+ * bench/reading.rs calls it. */
 #include <string.h>
 
 #include "daly.h"
@@ -9,7 +10,7 @@ size_t read_by_c(const uint8_t *wire, size_t step, uint8_t cells, float *volts)
     struct daly_reader reader;
     if (daly_request(0x95, false, 0, request) != DALY_DONE)
         return 0;
-    if (daly_reader_new(&reader, request, sizeof request, daly_cell_voltages_reply_size(cells)) != DALY_DONE)
+    if (daly_reader_new(&reader, request, sizeof request, daly_cell_voltages_reply_size(cells), false) != DALY_DONE)
         return 0;
     for (size_t missing = daly_reader_missing(&reader).missing; missing > 0;) {
         size_t length = missing < step ? missing : step;

@@ -21,6 +21,7 @@ static struct daly_reader reader;
 static const uint8_t *chunk;
 static size_t length;
 static uint8_t command;
+static bool strict;
 
 __attribute__((noinline)) static size_t used(void (*call)(void))
 {
@@ -52,7 +53,7 @@ static void call_temperatures(void) { daly_cell_temperatures(reply, length, 255,
 static void call_balance(void) { daly_cell_balance_state(reply, length, 48, flags, 48); __asm__ volatile(""); }
 static void call_faults(void) { daly_error_codes(reply, length, faults, 48); __asm__ volatile(""); }
 static void call_pack(void) { daly_pack_check(millivolts, 255, 9000); __asm__ volatile(""); }
-static void call_new(void) { daly_reader_new(&reader, request, sizeof request, length); __asm__ volatile(""); }
+static void call_new(void) { daly_reader_new(&reader, request, sizeof request, length, strict); __asm__ volatile(""); }
 static void call_push(void) { daly_reader_push(&reader, chunk, length); __asm__ volatile(""); }
 static void call_missing(void) { daly_reader_missing(&reader); __asm__ volatile(""); }
 static void call_complete(void) { daly_reader_is_complete(&reader); __asm__ volatile(""); }
@@ -133,15 +134,30 @@ static void pushed(const uint8_t *stream, size_t size)
     deepest = push;
 }
 
+/* The frames of the reply, as if we had sent them. */
+static void echo(uint8_t echoes[DALY_FRAMES])
+{
+    memcpy(echoes, reply, sizeof reply);
+    for (size_t i = 0; i < sizeof reply; i += DALY_FRAME) {
+        echoes[i + 1] = 0x40;
+        echoes[i + 12] = daly_calc_crc(echoes + i, DALY_FRAME);
+    }
+}
+
 static void readers(void)
 {
-    static uint8_t starts[DALY_FRAMES], noise[DALY_FRAMES];
+    static uint8_t starts[DALY_FRAMES], noise[DALY_FRAMES], echoes[DALY_FRAMES];
     memset(starts, 0xA5, sizeof starts);
     fill(0x95);
-    for (size_t size = 1; size <= 64; size++) {
-        pushed(reply, size);
-        pushed(starts, size);
-        pushed(noise, size);
+    echo(echoes);
+    for (int mode = 0; mode < 2; mode++) {
+        strict = mode == 1;
+        for (size_t size = 1; size <= 64; size++) {
+            pushed(reply, size);
+            pushed(starts, size);
+            pushed(noise, size);
+            pushed(echoes, size);
+        }
     }
     told("daly_reader_push");
     static const char *const names[3] = {"daly_reader_missing", "daly_reader_is_complete", "daly_reader_copy_out"};

@@ -6,7 +6,8 @@
  * It opens a pseudo-terminal, prints its path and answers there until it is ended; with --stdio it answers on standard
  * input and output, as for socat, until its input ends. STATE is a text of lines `name value` in the words of readreply
  * (total_voltage 523, current -121, cell 3301, sensor 25, balance 1, fault 17, mode 2), so that what readreply prints
- * of captures is a state, and of `address 1`, which boards have. What is not named is 0, the address too; but `cells`
+ * of captures is a state, and of `address 1`, which boards have. (64 is the host's: a strict reader, as both example
+ * controllers have it, takes what such a board sends for echoes.) What is not named is 0, the address too; but `cells`
  * and `temperature_sensors` are then the number of lines `cell` and `sensor`. Of a name that stands twice the last value
  * counts, and lists grow. A line that is not understood is told, and the status is 2.
  *
@@ -38,7 +39,7 @@ static bool hears_frame(struct ear *ear, uint8_t byte)
 {
     ear->bytes[ear->length++] = byte;
     while (ear->length > 0 && (ear->bytes[0] != 0xA5 || ear->length == DALY_FRAME)) {
-        if (ear->length == DALY_FRAME && daly_frame_check(ear->bytes, DALY_FRAME, ear->bytes[2]) == DALY_DONE) {
+        if (ear->length == DALY_FRAME && daly_frame_check(ear->bytes, DALY_FRAME, ear->bytes[2]).number == DALY_DONE) {
             ear->length = 0;
             return true;
         }

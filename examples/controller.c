@@ -44,11 +44,14 @@ static int refused(uint8_t number)
     return FAILED;
 }
 
-/* One reply. No more is read than the next frame lacks, so what follows stays on the line. */
+/*
+ * One reply. The reader is strict, since an adapter may send our question back. No more is read than the next frame
+ * lacks, so what follows stays on the line.
+ */
 static int collect(int line, long until, const uint8_t *request, size_t reply_size, struct reply *reply)
 {
     struct daly_reader reader;
-    uint8_t opened = daly_reader_new(&reader, request, DALY_FRAME, reply_size);
+    uint8_t opened = daly_reader_new(&reader, request, DALY_FRAME, reply_size, true);
     if (opened != DALY_DONE)
         return refused(opened);
     for (size_t missing = daly_reader_missing(&reader).missing; missing > 0;) {
@@ -81,15 +84,6 @@ static size_t reply_size(struct question asked)
     }
 }
 
-/*
- * An adapter may send our question back. For a reply of one frame it is a right frame, as byte 1 is not
- * looked at: so it is passed over.
- */
-static bool is_echo(const struct reply *reply, const uint8_t *request)
-{
-    return reply->length == DALY_FRAME && memcmp(reply->bytes, request, DALY_FRAME) == 0;
-}
-
 static int exchange(int line, struct question asked, struct reply *reply)
 {
     uint8_t request[DALY_FRAME];
@@ -98,12 +92,7 @@ static int exchange(int line, struct question asked, struct reply *reply)
         return refused(number);
     int status = send_question(line, request, DALY_FRAME);
     long until = now() + PATIENCE;
-    while (status == DONE) {
-        status = collect(line, until, request, reply_size(asked), reply);
-        if (status == DONE && !is_echo(reply, request))
-            break;
-    }
-    return status;
+    return status == DONE ? collect(line, until, request, reply_size(asked), reply) : status;
 }
 
 /* Nothing that was asked before is on the line when the question goes out, nor when it is given up. */

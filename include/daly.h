@@ -28,10 +28,10 @@ extern "C" {
 
 /* ---- The version, as in CHANGELOG.md */
 
-#define DALY_VERSION "0.1.1"
+#define DALY_VERSION "0.2.0"
 #define DALY_VERSION_MAJOR 0
-#define DALY_VERSION_MINOR 1
-#define DALY_VERSION_PATCH 1
+#define DALY_VERSION_MINOR 2
+#define DALY_VERSION_PATCH 0
 
 /* ---- Refusals */
 
@@ -84,10 +84,21 @@ enum {
 uint8_t daly_calc_crc(const uint8_t *buffer, size_t len);
 
 /*
- * Whether the buffer is a right frame of this command: 0, or 1, 2 or 3, in this order. It judges the replies
- * that have nothing to decode: those to D9, DA, 21 and 00.
+ * What the buffer is, where this command was asked. Three things are told apart: a right frame from another sender,
+ * which is 0 and no echo; a right frame with our own address, 40 hexadecimal, in byte 1, which is 0 and an echo; and
+ * what is no right frame, which is 1, 2 or 3, in this order, and no echo. It judges the replies that have nothing to
+ * decode: those to D9, DA, 21 and 00.
+ *
+ * An echo is our own question: on two-wire lines the adapter returns what we sent. It has the right sum and the right
+ * command, so a decoder takes it for a reply: an echoed 90 question is a pack at 0 V and -3000 A, an echoed 98 question
+ * a pack without faults. To one who looks at `number` alone, an echoed D9 is its own acknowledgement. A strict reader
+ * throws echoes away (daly_reader_new).
  */
-uint8_t daly_frame_check(const uint8_t *buffer, size_t len, uint8_t command);
+struct daly_frame_kind {
+    uint8_t number;
+    bool echo; /* of a right frame alone; known by byte 1 and by nothing else */
+};
+struct daly_frame_kind daly_frame_check(const uint8_t *buffer, size_t len, uint8_t command);
 
 /* Whether the buffer has a full frame k, counted from 0: 0 or 1. It begins at buffer + 13 * k. */
 uint8_t daly_frame_refusal(const uint8_t *buffer, size_t len, size_t k);
@@ -108,8 +119,9 @@ uint8_t daly_request(uint8_t command, bool enable, float soc_percent, uint8_t ou
 /* ---- Replies of one frame: `number` is 0, 1, 2 or 3, of 93 also 5 */
 
 /*
- * A decoder looks at the whole buffer: the sum is that of all bytes but the last, even past 13. The records
- * with floats have what the Rust has, to the last bit; the `_counts` have the board's own whole numbers.
+ * A decoder looks at the whole buffer: the sum is that of all bytes but the last, even past 13. It looks at no
+ * address, so it takes echoes, too. The records with floats have what the Rust has, to the last bit; the `_counts`
+ * have the board's own whole numbers.
  */
 
 /* 90: volts, amperes (below 0 while charging, as the Rust has it), percent; as counts, tenths of each */
@@ -243,6 +255,7 @@ struct daly_pack daly_pack_check(const uint16_t *cells, size_t n_cells, uint16_t
 struct daly_counts {
     uint8_t command;
     bool mark;          /* more than 512 bytes were ever discarded */
+    bool strict;        /* echoes are discarded */
     uint32_t taken;     /* bytes, modulo 2^32 */
     uint32_t discarded; /* bytes, modulo 2^32 */
     uint32_t cleared;   /* frames dropped because the board began again, modulo 2^32 */
@@ -258,7 +271,7 @@ struct daly_counts {
  * next frame then still needs, as daly_reader_missing does of a new reader, and that is 0 when and only when the
  * reader is complete or bad. While it is more, read at most so many bytes and push them; examples/controller.c
  * does so.
- * No call of the library needs more than 304 bytes of stack. That is measured, by bench/stack, with the call's return
+ * No call of the library needs more than 348 bytes of stack. That is measured, by bench/stack, with the call's return
  * address; no proof speaks of it.
  */
 struct daly_reader {
@@ -268,9 +281,14 @@ struct daly_reader {
 
 /*
  * Makes your reader one for the reply to `request`, of `reply_size` bytes: 0, or 7 or 6 with a reader that is
- * all zero. What lay in it before is not looked at.
+ * all zero, and so not strict. What lay in it before is not looked at.
+ *
+ * Strict mode is for two-wire lines, where the adapter returns what we sent. A strict reader discards an echo whole:
+ * a right frame of the command with our own address, 40 hexadecimal, in byte 1. Its 13 bytes count as discarded, also
+ * among the 512. Its number is not read, so an echo numbered 1 does not begin the reply again. A reader that is not
+ * strict looks at no address: where one frame is wanted, the echo is the reply.
  */
-uint8_t daly_reader_new(struct daly_reader *reader, const uint8_t *request, size_t len, size_t reply_size);
+uint8_t daly_reader_new(struct daly_reader *reader, const uint8_t *request, size_t len, size_t reply_size, bool strict);
 
 /*
  * A push into your reader, which moves on where it lies. It says 0; 2 where more than 512 bytes were ever

@@ -9,6 +9,8 @@ from collections import namedtuple
 # What is to be asked, in hexadecimal, what the board sends, in bytes, and after how many seconds.
 Exchange = namedtuple("Exchange", "question sends late", defaults=[0])
 HANG_UP = object()  # instead of what is sent
+# How a line of two wires sends each question back, before anything else: how often, and whether in pieces.
+Echo = namedtuple("Echo", "times cut")
 PATIENCE = 30  # seconds for a controller to end
 
 
@@ -22,8 +24,8 @@ def frame(*content):
 class Board:
     """Answers questions in their order. `faults` says where it was not asked what it was to be asked."""
 
-    def __init__(self, exchanges, draw, raw=True):
-        self.exchanges, self.draw, self.faults = exchanges, draw, []
+    def __init__(self, exchanges, draw, raw=True, echo=None):
+        self.exchanges, self.draw, self.echo, self.faults = exchanges, draw, echo, []
         self.board, self.line = os.openpty()
         if raw:
             tty.setraw(self.line)
@@ -59,6 +61,8 @@ class Board:
             if question != bytes.fromhex(asked):
                 self.faults.append(f"the question was {question.hex(' ')}, not {asked}")
                 return
+            if self.echo:
+                self.send_back(question)
             time.sleep(late)
             if sends is HANG_UP:
                 self.hang_up()
@@ -78,9 +82,18 @@ class Board:
                 break
         return found
 
+    def send_back(self, question):
+        content = question * self.echo.times
+        if self.echo.cut:
+            self.send_pieces(content, self.draw.choice([1, 3, 5]))
+        else:
+            os.write(self.board, content)
+
     def send(self, content):
-        """In pieces, with pauses."""
-        longest = self.draw.choice([1, 3, 13, 40]) if len(content) < 200 else 60
+        self.send_pieces(content, self.draw.choice([1, 3, 13, 40]) if len(content) < 200 else 60)
+
+    def send_pieces(self, content, longest):
+        """With pauses."""
         while content:
             length = self.draw.randint(1, longest)
             os.write(self.board, content[:length])

@@ -29,9 +29,11 @@ static void frame(uint8_t *to, uint8_t command, const uint8_t data[8])
 
 static const uint8_t soc[13] = {0xA5, 0x01, 0x90, 0x08, 0x02, 0x0B, 0x00, 0x00, 0x74, 0xB7, 0x03, 0x6A, 0xE3};
 
+/* The 90 question, P1. On a two-wire line it comes back. */
+static const uint8_t p1[13] = {0xA5, 0x40, 0x90, 0x08, 0, 0, 0, 0, 0, 0, 0, 0, 0x7D};
+
 static void requests_and_frames(void)
 {
-    const uint8_t p1[13] = {0xA5, 0x40, 0x90, 0x08, 0, 0, 0, 0, 0, 0, 0, 0, 0x7D};
     const uint8_t p2[13] = {0xA5, 0x40, 0x21, 0x08, 0, 0, 0, 0, 0, 0, 0, 3, 0x11};
     const uint8_t on[13] = {0xA5, 0x40, 0xDA, 0x08, 1, 0, 0, 0, 0, 0, 0, 0, 0xC8};
     uint8_t out[DALY_FRAME];
@@ -40,10 +42,49 @@ static void requests_and_frames(void)
     test(daly_request(0xDA, true, 0, out) == DALY_DONE && memcmp(out, on, 13) == 0, "daly_request: a switch");
     test(daly_request(0x99, true, 0, out) == DALY_UNKNOWN_COMMAND && memcmp(out, on, 13) == 0, "daly_request: none");
     test(daly_calc_crc(soc, 13) == 0xE3 && daly_calc_crc(soc, 1) == 0, "daly_calc_crc");
-    test(daly_frame_check(soc, 13, 0x90) == DALY_DONE && daly_frame_check(soc, 12, 0x90) == DALY_REPLY_SIZE &&
-             daly_frame_check(soc, 13, 0x91) == DALY_UNEXPECTED_FRAME,
-         "daly_frame_check");
     test(daly_frame_refusal(soc, 13, 0) == DALY_DONE && daly_frame_refusal(soc, 13, 1) == DALY_REPLY_SIZE, "daly_frame_refusal");
+}
+
+static bool kind_is(struct daly_frame_kind kind, uint8_t number, bool echo)
+{
+    return kind.number == number && kind.echo == echo;
+}
+
+/* A right frame from each address, with what a board says in it: one address is ours. */
+static bool addresses_are_told(void)
+{
+    uint8_t from[DALY_FRAME];
+    bool good = true;
+    for (int address = 0; address < 256; address++) {
+        memcpy(from, soc, DALY_FRAME);
+        from[1] = (uint8_t)address;
+        from[12] = daly_calc_crc(from, DALY_FRAME);
+        good = good && kind_is(daly_frame_check(from, DALY_FRAME, 0x90), DALY_DONE, address == 0x40);
+    }
+    return good;
+}
+
+static void kinds(void)
+{
+    uint8_t longer[14], wrong[DALY_FRAME], elsewhere[DALY_FRAME];
+    memcpy(longer, p1, DALY_FRAME);
+    longer[13] = 0xFA;
+    memcpy(wrong, p1, DALY_FRAME);
+    wrong[12]++;
+    frame(elsewhere, 0x90, (const uint8_t[8]){0x40, 0x40, 0x40, 0x40, 0x40, 0x40, 0x40, 0x40});
+    test(kind_is(daly_frame_check(soc, 13, 0x90), DALY_DONE, false), "daly_frame_check: a frame from the board");
+    test(kind_is(daly_frame_check(p1, 13, 0x90), DALY_DONE, true), "daly_frame_check: an echo");
+    test(kind_is(daly_frame_check(longer, 14, 0x90), DALY_DONE, true), "daly_frame_check: an echo in a longer buffer");
+    test(kind_is(daly_frame_check(soc, 12, 0x90), DALY_REPLY_SIZE, false) && kind_is(daly_frame_check(soc, 13, 0x91), DALY_UNEXPECTED_FRAME, false),
+         "daly_frame_check: no right frame");
+    test(kind_is(daly_frame_check(p1, 12, 0x90), DALY_REPLY_SIZE, false) && kind_is(daly_frame_check(p1, 13, 0x91), DALY_UNEXPECTED_FRAME, false) &&
+             kind_is(daly_frame_check(wrong, 13, 0x90), DALY_CHECK_SUM, false),
+         "daly_frame_check: our address, and no right frame");
+    test(addresses_are_told(), "daly_frame_check: every address");
+    test(kind_is(daly_frame_check(elsewhere, 13, 0x90), DALY_DONE, false), "daly_frame_check: 40 elsewhere is no echo");
+    struct daly_soc s = daly_soc(p1, 13);
+    struct daly_soc_counts c = daly_soc_counts(p1, 13);
+    test(s.number == 0 && s.total_voltage == 0 && s.current == -3000 && c.number == 0 && c.current == -30000, "daly_soc, daly_soc_counts: an echo is taken");
 }
 
 static const uint8_t commands[] = {
@@ -76,9 +117,11 @@ static void names(void)
     for (size_t i = 0; i < sizeof only_checked; i++) {
         uint8_t reply[DALY_FRAME];
         frame(reply, only_checked[i], (const uint8_t[8]){0});
-        good = good && daly_frame_check(reply, DALY_FRAME, only_checked[i]) == DALY_DONE;
+        good = good && kind_is(daly_frame_check(reply, DALY_FRAME, only_checked[i]), DALY_DONE, false);
         reply[12]++;
-        good = good && daly_frame_check(reply, DALY_FRAME, only_checked[i]) == DALY_CHECK_SUM;
+        good = good && kind_is(daly_frame_check(reply, DALY_FRAME, only_checked[i]), DALY_CHECK_SUM, false);
+        good = good && daly_request(only_checked[i], true, 50, reply) == DALY_DONE &&
+               kind_is(daly_frame_check(reply, DALY_FRAME, only_checked[i]), DALY_DONE, true);
     }
     test(good, "daly_frame_check: the replies that have nothing to decode");
 
@@ -224,7 +267,7 @@ static struct daly_reader pushed(struct daly_reader reader)
 static bool same(const struct daly_reader *a, const struct daly_reader *b)
 {
     const struct daly_counts *x = &a->counts, *y = &b->counts;
-    return x->command == y->command && x->mark == y->mark && x->taken == y->taken && x->discarded == y->discarded && x->cleared == y->cleared &&
+    return x->command == y->command && x->mark == y->mark && x->strict == y->strict && x->taken == y->taken && x->discarded == y->discarded && x->cleared == y->cleared &&
            x->wanted == y->wanted && x->collected == y->collected && x->held == y->held && memcmp(a->frames, b->frames, DALY_FRAMES) == 0;
 }
 
@@ -234,13 +277,13 @@ static void reader(void)
     daly_request(0x90, false, 0, request);
     struct daly_reader r, zero = {0};
     memset(&r, 0x5A, sizeof r);
-    test(daly_reader_new(&r, request, 2, 13) == DALY_REQUEST_TOO_SHORT && same(&r, &zero), "daly_reader_new: a short request");
+    test(daly_reader_new(&r, request, 2, 13, true) == DALY_REQUEST_TOO_SHORT && same(&r, &zero), "daly_reader_new: a short request");
     memset(&r, 0x5A, sizeof r);
-    test(daly_reader_new(&r, request, 13, 1106) == DALY_REPLY_TOO_LONG && same(&r, &zero), "daly_reader_new: a long reply");
+    test(daly_reader_new(&r, request, 13, 1106, true) == DALY_REPLY_TOO_LONG && same(&r, &zero), "daly_reader_new: a long reply");
     memset(&r, 0x5A, sizeof r);
     zero.counts.command = 0x90;
     zero.counts.wanted = 1;
-    test(daly_reader_new(&r, request, 13, 13) == 0 && same(&r, &zero), "daly_reader_new");
+    test(daly_reader_new(&r, request, 13, 13, false) == 0 && same(&r, &zero), "daly_reader_new");
 
     r = pushed(r);
     struct daly_completed d = daly_reader_is_complete(&r);
@@ -248,6 +291,83 @@ static void reader(void)
     struct daly_list l = daly_reader_copy_out(&r, out, 13);
     test(l.number == 0 && l.count == 13 && memcmp(out, soc, 13) == 0, "daly_reader_copy_out");
     test(daly_reader_copy_out(&r, out, 12).number == DALY_NO_ROOM, "daly_reader_copy_out: no room");
+}
+
+/* A new reader of so many frames, of the command in the question, and the line in chunks of one size pushed into it. */
+static struct daly_said pushed_new(struct daly_reader *reader, const uint8_t *question, size_t frames, bool strict, const uint8_t *line, size_t len, size_t size)
+{
+    struct daly_said said = {0, 0, 0};
+    if (daly_reader_new(reader, question, DALY_FRAME, DALY_FRAME * frames, strict) != DALY_DONE)
+        return said;
+    for (size_t at = 0; at < len; at += size)
+        said = daly_reader_push(reader, line + at, len - at < size ? len - at : size);
+    return said;
+}
+
+/* The 90 question, sent back, and then document 01's frame. */
+static void echo_and_reply(void)
+{
+    uint8_t line[26];
+    memcpy(line, p1, 13);
+    memcpy(line + 13, soc, 13);
+    struct daly_reader strict, cut, other, wanted = {.counts = {.command = 0x90, .strict = true, .taken = 26, .discarded = 13, .wanted = 1, .collected = 1}};
+    memcpy(wanted.frames, soc, 13);
+    struct daly_said said = pushed_new(&strict, p1, 1, true, line, 26, 26);
+    test(said.status == 0 && said.missing == 0 && said.took == 26 && memcmp(strict.frames, soc, 13) == 0 && strict.counts.discarded == 13,
+         "strict: an echo is discarded, and the reply collected");
+    bool good = same(&strict, &wanted);
+    for (size_t size = 1; size < 26; size++) {
+        pushed_new(&cut, p1, 1, true, line, 26, size);
+        good = good && same(&cut, &wanted);
+    }
+    test(good, "strict: however it is cut");
+    said = pushed_new(&other, p1, 1, false, line, 26, 26);
+    test(said.status == 0 && said.missing == 0 && said.took == 13 && memcmp(other.frames, p1, 13) == 0 && other.counts.discarded == 0 && !other.counts.strict,
+         "not strict: the echo is collected");
+}
+
+/* Frames 1 and 2 of three, an echo numbered 1, and frame 3. */
+static void echo_with_a_number(void)
+{
+    const uint8_t question[13] = {0xA5, 0x40, 0x95, 0x08, 0, 0, 0, 0, 0, 0, 0, 0, 0x82};
+    uint8_t line[52];
+    frame(line, 0x95, (const uint8_t[8]){1});
+    frame(line + 13, 0x95, (const uint8_t[8]){2});
+    memcpy(line + 26, question, 13);
+    line[26 + 4]++;
+    line[26 + 12]++;
+    frame(line + 39, 0x95, (const uint8_t[8]){3});
+    struct daly_reader strict, other;
+    struct daly_said said = pushed_new(&strict, question, 3, true, line, 52, 52);
+    test(said.missing == 0 && said.took == 52 && strict.counts.cleared == 0 && strict.counts.discarded == 13 && strict.counts.collected == 3,
+         "strict: an echo numbered 1 drops nothing");
+    said = pushed_new(&other, question, 3, false, line, 52, 52);
+    test(said.missing == 13 && other.counts.cleared == 2 && other.counts.discarded == 13 && other.counts.collected == 1,
+         "not strict: it begins the reply again");
+}
+
+/* A start byte among its 13: a frame might begin there, if the echo were not thrown away whole. */
+static void echo_with_a_start(void)
+{
+    const uint8_t line[13] = {0xA5, 0x40, 0x90, 0x08, 0, 0xA5, 0, 0, 0, 0, 0, 0, 0x22};
+    struct daly_reader whole, cut;
+    struct daly_said said = pushed_new(&whole, p1, 1, true, line, 13, 13);
+    test(said.missing == 13 && whole.counts.discarded == 13 && whole.counts.held == 0, "strict: an echo is discarded whole");
+    said = pushed_new(&cut, p1, 1, true, line, 13, 1);
+    test(said.missing == 13 && cut.counts.discarded == 13 && cut.counts.held == 0, "strict: whole, in single bytes");
+}
+
+/* 39 echoes are 507 bytes, and 40 are 520. */
+static void many_echoes(void)
+{
+    uint8_t line[40 * DALY_FRAME];
+    for (int i = 0; i < 40; i++)
+        memcpy(line + i * DALY_FRAME, p1, DALY_FRAME);
+    struct daly_reader few, many;
+    struct daly_said said = pushed_new(&few, p1, 1, true, line, 39 * DALY_FRAME, 39 * DALY_FRAME);
+    test(said.status == DALY_DONE && said.missing == 13 && few.counts.discarded == 507 && !few.counts.mark, "strict: 39 echoes");
+    said = pushed_new(&many, p1, 1, true, line, sizeof line, sizeof line);
+    test(said.status == DALY_UNEXPECTED_FRAME && said.missing == 13 && many.counts.discarded == 520 && many.counts.mark, "strict: 40 echoes are over 512 bytes");
 }
 
 /* What the writers are lent: the longest reply, and a byte more. */
@@ -351,12 +471,17 @@ static void written_acknowledgements(void)
 int main(void)
 {
     requests_and_frames();
+    kinds();
     names();
     sizes();
     records();
     lists();
     pack();
     reader();
+    echo_and_reply();
+    echo_with_a_number();
+    echo_with_a_start();
+    many_echoes();
     memset(lent, 0x5A, sizeof lent);
     written_records();
     written_lists();

@@ -180,6 +180,15 @@ static void put_status(struct text *out, struct bytes reply)
     put_two(out, status.cycles);
 }
 
+/* The list has no echoes, since the Rust tells none; but its replies have addresses: only a sound one with ours is one. */
+static void put_checked(struct text *out, struct bytes reply, uint8_t command)
+{
+    struct daly_frame_kind kind = daly_frame_check(reply.at, reply.length, command);
+    bool ours = put_number(out, kind.number) && byte_at(reply, 1) == 0x40;
+    if (kind.echo != ours)
+        put_byte(out, NO_BYTE);
+}
+
 /* ---- Replies with many values */
 
 /* Puts the number; how many values follow it. */
@@ -250,7 +259,7 @@ static void put_decoded(struct text *out, struct bytes question)
     case 0x96: put_cell_temperatures(out, reply, count); break;
     case 0x97: put_cell_balance_state(out, reply, count); break;
     case 0x98: put_error_codes(out, reply); break;
-    default: put_byte(out, daly_frame_check(reply.at, reply.length, command));
+    default: put_checked(out, reply, command);
     }
 }
 
@@ -281,7 +290,7 @@ static void put_read(struct text *out, struct bytes question)
 {
     const uint8_t request[3] = {0, 0, byte_at(question, 1)};
     struct daly_reader reader;
-    uint8_t opened = daly_reader_new(&reader, request, sizeof request, two_at(question, 2));
+    uint8_t opened = daly_reader_new(&reader, request, sizeof request, two_at(question, 2), false);
     size_t size = two_at(question, 4);
     struct daly_said said = push_in_chunks(&reader, behind(question, 6), size > 0 ? size : 1);
     struct daly_completed completed = daly_reader_is_complete(&reader);
@@ -563,7 +572,7 @@ static void print_read(uint8_t command, size_t reply_size, struct bytes stream)
     if (!print_refused(daly_request(command, false, 0, request)))
         return;
     struct daly_reader reader;
-    uint8_t opened = daly_reader_new(&reader, request, DALY_FRAME, reply_size);
+    uint8_t opened = daly_reader_new(&reader, request, DALY_FRAME, reply_size, false);
     struct daly_said said = daly_reader_push(&reader, stream.at, stream.length);
     struct daly_completed completed = daly_reader_is_complete(&reader);
     if (print_refused(opened) && print_refused(completed.number))

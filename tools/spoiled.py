@@ -8,8 +8,8 @@ CIRCLE = "what readreply prints, no option: over standard input and output"
 
 # What is wrong with a board, which test notices it, in which file, what is there and what stands there instead.
 SPOILED = [
-    ("a wrong sum is answered", "no answer: byte 4 is wrong", "board.c", "ear->bytes[2]) == DALY_DONE",
-     "ear->bytes[2]) != DALY_REPLY_SIZE"),
+    ("a wrong sum is answered", "no answer: byte 4 is wrong", "board.c", "ear->bytes[2]).number == DALY_DONE",
+     "ear->bytes[2]).number != DALY_REPLY_SIZE"),
     ("after a wrong sum all is thrown away", "drawn streams 1", "board.c", "ear->length--;", "ear->length = 0;"),
     ("it answers its own answers", "no answer: a reply of this board", "board.c", "if (is_own(state, request))", "if (!manner)"),
     ("a sender that is not the host is not answered", "another sender", "board.c", "frame[1] == state->values[ADDRESS] &&", ""),

@@ -165,14 +165,15 @@ struct Board {
 }
 
 impl Board {
-    /// The bytes of one reply. No more is read than the next frame lacks, so what follows stays on the line.
+    /// The bytes of one reply. The reader is strict, since an adapter may send our question back. No more is read
+    /// than the next frame lacks, so what follows stays on the line.
     fn collect(
         &mut self,
         until: Instant,
         request: &[u8],
         reply_size: usize,
     ) -> Result<Vec<u8>, Failure> {
-        let mut reader = FrameReader::new(request, reply_size);
+        let mut reader = FrameReader::new_strict(request, reply_size);
         let mut chunk = [0; 13];
         while !reader.is_complete() {
             let length = self.line.receive(until, &mut chunk[..reader.missing()])?;
@@ -181,18 +182,11 @@ impl Board {
         Ok(reader.into_bytes())
     }
 
-    /// An adapter may send our question back. For a reply of one frame it is a right frame, as byte 1 is not
-    /// looked at: so it is passed over here.
     fn exchange(&mut self, question: Question) -> Result<Vec<u8>, Failure> {
         let request = question.request();
         self.line.send(&request)?;
         let until = Instant::now() + PATIENCE;
-        loop {
-            let reply = self.collect(until, &request, question.reply_size())?;
-            if reply != request {
-                return Ok(reply);
-            }
-        }
+        self.collect(until, &request, question.reply_size())
     }
 
     /// Nothing that was asked before is on the line when the question goes out, nor when it is given up.

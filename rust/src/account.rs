@@ -118,7 +118,8 @@ pub fn calc_crc(buffer: &[u8]) -> u8 {
 }
 
 /// Whether the buffer is a right frame of this command: at least 13 bytes, the start byte A5, the command and the
-/// sum. The errors are those of a reply of one frame, in the same order.
+/// sum. The errors are those of a reply of one frame, in the same order. An echo of our own question is
+/// such a frame, too.
 ///
 /// ```
 /// use daly::{account::frame_check, Error};

@@ -9,7 +9,7 @@ mod told;
 mod wire;
 
 use crate::Error;
-use told::{CellVoltageRange, List, MosfetStatus, Soc, Status, TemperatureRange};
+use told::{CellVoltageRange, FrameKind, List, MosfetStatus, Soc, Status, TemperatureRange};
 pub use told::{Counts, Reader};
 
 /// Bytes of a frame.
@@ -25,7 +25,7 @@ type Decode<T> = unsafe extern "C" fn(*const u8, usize) -> T;
 type DecodeList<P> = unsafe extern "C" fn(*const u8, usize, u8, *mut P, usize) -> List;
 
 extern "C" {
-    fn daly_frame_check(buffer: *const u8, len: usize, command: u8) -> u8;
+    fn daly_frame_check(buffer: *const u8, len: usize, command: u8) -> FrameKind;
     fn daly_request(command: u8, enable: bool, soc_percent: f32, out: *mut u8) -> u8;
     fn daly_soc(reply: *const u8, len: usize) -> Soc;
     fn daly_cell_voltage_range(reply: *const u8, len: usize) -> CellVoltageRange;
@@ -58,10 +58,11 @@ extern "C" {
     fn daly_error_codes(reply: *const u8, len: usize, out: *mut u8, room: usize) -> List;
 }
 
-/// Whether the reply is a right frame of this command.
+/// Whether the reply is a right frame of this command. An echo is one, too, as in `dalybms_lib`.
 pub fn check(reply: &[u8], command: u8) -> Result<(), Error> {
     // SAFETY: pointer and length are those of a live slice; of an empty one the pointer is not null.
-    Error::check(unsafe { daly_frame_check(reply.as_ptr(), reply.len(), command) })
+    let kind = unsafe { daly_frame_check(reply.as_ptr(), reply.len(), command) };
+    Error::check(kind.number)
 }
 
 /// The request of one of the thirteen commands, of which the library refuses none.

@@ -39,6 +39,9 @@
 //!   more, so a `match` on it needs a `_`.
 //! - The sentences of [`Error`] and [`protocol::ErrorCode`] (their `Display`) are this crate's own, and `{:?}` of
 //!   a reader shows counts and no bytes.
+//! - [`protocol::FrameReader::new_strict`], which `dalybms_lib` has not, makes a reader for two-wire lines: it throws
+//!   away what the adapter returns of our own questions. A reader by `new` takes such an echo for a reply of one frame,
+//!   as in `dalybms_lib`.
 //! - Left out: serde, log lines, and the clients.
 //!
 //! The library builds requests from the host's address, 40 hexadecimal, and

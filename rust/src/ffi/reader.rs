@@ -11,6 +11,7 @@ extern "C" {
         request: *const u8,
         len: usize,
         reply_size: usize,
+        strict: bool,
     ) -> u8;
     fn daly_reader_push(reader: *mut Reader, chunk: *const u8, len: usize) -> Said;
     fn daly_reader_missing(reader: *const Reader) -> Missing;
@@ -19,12 +20,12 @@ extern "C" {
 
 impl Reader {
     /// What a new reader begins with: its counts, all zero where it is refused, and how many bytes it lacks.
-    pub fn open(request: &[u8], reply_size: usize) -> (Counts, Result<usize, Error>) {
+    pub fn open(request: &[u8], reply_size: usize, strict: bool) -> (Counts, Result<usize, Error>) {
         let mut place = MaybeUninit::<Self>::uninit();
         let (out, bytes) = (place.as_mut_ptr(), request.as_ptr());
         // SAFETY: as in `super::check`; the place is alive and lent to nobody else, and is then filled.
         let (number, reader) = unsafe {
-            let number = daly_reader_new(out, bytes, request.len(), reply_size);
+            let number = daly_reader_new(out, bytes, request.len(), reply_size, strict);
             (number, place.assume_init_ref())
         };
         let missing = Error::check(number).map(|()| reader.missing());

@@ -3,6 +3,12 @@
 use super::FRAMES;
 
 #[repr(C)]
+pub struct FrameKind {
+    pub number: u8,
+    pub echo: u8,
+}
+
+#[repr(C)]
 pub struct Soc {
     pub number: u8,
     pub total_voltage: f32,
@@ -101,6 +107,7 @@ pub struct Pack {
 pub struct Counts {
     pub command: u8,
     pub mark: u8,
+    pub strict: u8,
     pub taken: u32,
     pub discarded: u32,
     pub cleared: u32,

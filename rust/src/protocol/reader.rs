@@ -13,8 +13,8 @@ use std::fmt::{self, Debug, Formatter};
 /// `dalybms_lib` keeps them where nobody gets at them. Who reads no more than [`FrameReader::missing`] bytes
 /// at a time pushes none of them.
 ///
-/// Where the line sends a request back, that is a right frame of a one-frame reply, as in `dalybms_lib`: the
-/// address is not looked at. `examples/controller.rs` passes it over.
+/// On two-wire lines the adapter returns what we sent. Such an echo is a right frame of a one-frame reply, as in
+/// `dalybms_lib`: the address is not looked at. [`FrameReader::new_strict`] makes a reader that throws echoes away.
 pub struct FrameReader {
     reader: ffi::Reader,
     /// What `new` could not answer.
@@ -30,7 +30,42 @@ impl FrameReader {
     /// than 1,105 with [`Error::ReplyTooLong`]: such a reader answers the error to every push, is never
     /// complete, lacks a frame and has no bytes.
     pub fn new(request: &[u8], reply_size: usize) -> Self {
-        let (counts, missing) = ffi::Reader::open(request, reply_size);
+        Self::open(request, reply_size, false)
+    }
+
+    /// As [`FrameReader::new`], for two-wire lines: a reader in strict mode. `dalybms_lib` has no such reader.
+    ///
+    /// It discards an echo whole: a right frame of the command with the host's address, 40 hexadecimal, in byte 1.
+    /// The 13 bytes count as discarded, also among the 512. The echo's number is not read, so one that is numbered 1
+    /// does not begin the reply again.
+    ///
+    /// ```
+    /// use daly::protocol::{Address, FrameReader, Soc};
+    ///
+    /// // What we sent, and then the reply: 52.3 V.
+    /// let request = Soc::request(Address::Host);
+    /// let reply = [0xA5, 0x01, 0x90, 0x08, 0x02, 0x0B, 0x00, 0x00, 0x74, 0xB7, 0x03, 0x6A, 0xE3];
+    /// let line = [&request[..], &reply[..]].concat();
+    ///
+    /// let mut strict = FrameReader::new_strict(&request, Soc::reply_size());
+    /// strict.push(&line)?;
+    /// assert_eq!((strict.is_complete(), strict.account().discarded), (true, 13));
+    /// assert_eq!(Soc::decode(&strict.into_bytes())?.total_voltage, 52.3);
+    ///
+    /// // As in `dalybms_lib`, the echo is the reply.
+    /// let mut reader = FrameReader::new(&request, Soc::reply_size());
+    /// reader.push(&line)?;
+    /// let echo = Soc::decode(&reader.into_bytes())?;
+    /// assert_eq!((echo.total_voltage, echo.current), (0.0, -3000.0));
+    /// # Ok::<(), daly::Error>(())
+    /// ```
+    pub fn new_strict(request: &[u8], reply_size: usize) -> Self {
+        Self::open(request, reply_size, true)
+    }
+
+    #[inline]
+    fn open(request: &[u8], reply_size: usize, strict: bool) -> Self {
+        let (counts, missing) = ffi::Reader::open(request, reply_size, strict);
         Self {
             reader: ffi::Reader::empty(counts),
             refusal: missing.err(),

@@ -102,19 +102,19 @@ pub struct Completed {
 }
 
 // The numbers as they were: field by field, since a copy of the whole would carry the byte of padding behind `strict` through every push.
-fn as_given(c: Counts) -> Counts
-    ensures { λ r. ⌜ r ≡ c ⌝ }
+fn as_given(given: Counts) -> Counts
+    ensures { λ r. ⌜ r ≡ given ⌝ }
 {
     Counts {
-        command: c.command,
-        mark: c.mark,
-        strict: c.strict,
-        taken: c.taken,
-        discarded: c.discarded,
-        cleared: c.cleared,
-        wanted: c.wanted,
-        collected: c.collected,
-        held: c.held,
+        command: given.command,
+        mark: given.mark,
+        strict: given.strict,
+        taken: given.taken,
+        discarded: given.discarded,
+        cleared: given.cleared,
+        wanted: given.wanted,
+        collected: given.collected,
+        held: given.held,
     }
 }
 
@@ -266,15 +266,15 @@ fn fresh_counts(command: u8, wanted: usize, strict: bool) -> Counts
 pub fn open_counts(request: &[u8], reply_size: usize, strict: bool) -> Opening
     ensures { λ r. ⌜ r ≡ openingOf (now (request .entry)) «reply_size» strict ⌝ }
 {
+    // "A refused new reader is all zero"
+    let zero = fresh_counts(0, 0, false);
     if request.len() < 3 {
-        let zero = fresh_counts(0, 0, false);
         return Opening {
             number: Refusal::RequestTooShort.number(),
             counts: zero,
         };
     }
     if 1105 < reply_size {
-        let zero = fresh_counts(0, 0, false);
         return Opening {
             number: Refusal::ReplyTooLong.number(),
             counts: zero,

@@ -141,7 +141,7 @@ fn discards(w: &[u8], command: u8, strict: bool, wanted: usize, have: usize) -> 
     }
     // "discards an echo whole, after the command check and before the number check" (K1)
     if is_echo(w, strict) {
-        return 13;
+        return w.len();
     }
     // "With n = 1 the number is not read"
     if wanted <= 1 {

@@ -38,7 +38,7 @@ returns-3 c =
     let e = t .before .before in
     let k = e .before .before in
     let s = k .before .before in
-    let a = s .args in (due-echo (config (a .command) (a .wanted) (a .strict)) (a .have) (a .w .now) (s .pre .0) (e .if1 .left ∙ k .calc-crc .ensures) (t .if2 .left) (sym (i .is-echo .ensures) ∙ c .if3 .taken), omega arith)
+    let a = s .args in (s .pre .0 ∙ due-echo (config (a .command) (a .wanted) (a .strict)) (a .have) (a .w .now) (s .pre .0) (e .if1 .left ∙ k .calc-crc .ensures) (t .if2 .left) (sym (i .is-echo .ensures) ∙ c .if3 .taken), omega (arith, s .pre .0))
 
 returns-4 : tie.Need-returns-4
 returns-4 c =

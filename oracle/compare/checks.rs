@@ -1,9 +1,10 @@
 //! The frame check, and the frames of a buffer.
 
-use crate::frames::{self, FRAME, LONGEST};
+use crate::frames::{self, FRAME, HOST, LONGEST};
 use crate::one_frame::{self, Reads};
 use crate::original;
 use crate::random::Random;
+use crate::told::FrameKindTold;
 use crate::trial::{Part, Trial};
 
 const OF: &str = "frame check";
@@ -26,7 +27,19 @@ pub fn parts() -> Vec<Part> {
     [&one_frame::parts::<FrameCheck>(OF)[..], &others].concat()
 }
 
+/// Who sent it, which the Rust does not ask: document 02's K1.
+pub const ADDRESSES: [Part; 1] = [one_frame::address_part::<FrameCheck>(OF)];
+
 struct FrameCheck;
+
+/// The Rust's number as the port tells it. What is sound and has our own address is an echo.
+fn told(number: u8, reply: &[u8]) -> FrameKindTold {
+    let echo = number == 0 && reply[1] == HOST;
+    FrameKindTold {
+        number,
+        echo: echo.into(),
+    }
+}
 
 impl Reads for FrameCheck {
     fn command(random: &mut Random) -> u8 {
@@ -36,7 +49,8 @@ impl Reads for FrameCheck {
     fn compare(trial: &mut Trial, reply: &[u8], command: u8, known: Option<u8>) {
         let ours = trial.port.frame_check(reply, command);
         let rust = original::frame_check(reply, command);
-        trial.check_known(known.unwrap_or(rust), rust, ours, || {
+        let known = told(known.unwrap_or(rust), reply);
+        trial.check_known(known, told(rust, reply), ours, || {
             frames::shown(reply, command)
         });
     }
@@ -48,7 +62,7 @@ fn only_checked(trial: &mut Trial) {
             let reply = frames::any_reply(&mut trial.random, command);
             let ours = trial.port.frame_check(&reply, command);
             let rust = original::number(&decode(&reply));
-            trial.check(rust, ours, || frames::shown(&reply, command));
+            trial.check(told(rust, &reply), ours, || frames::shown(&reply, command));
         }
     }
 }

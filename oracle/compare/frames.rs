@@ -4,6 +4,8 @@ use crate::random::Random;
 
 pub const FRAME: usize = 13;
 pub const START: u8 = 0xA5;
+/// The address that our own requests carry.
+pub const HOST: u8 = 0x40;
 /// The longest reply: 85 frames.
 pub const LONGEST: usize = 1105;
 /// Where the data of a frame begins; a numbered frame has its number there.
@@ -36,6 +38,11 @@ pub fn lengths(first: usize) -> impl Iterator<Item = usize> {
 pub fn sum(buffer: &[u8]) -> u8 {
     let body = &buffer[..buffer.len().saturating_sub(1)];
     body.iter().fold(0, |sum, byte| sum.wrapping_add(*byte))
+}
+
+/// Whether the last byte fits the whole buffer.
+pub fn has_right_sum(buffer: &[u8]) -> bool {
+    buffer.last() == Some(&sum(buffer))
 }
 
 /// Makes the last byte fit the whole buffer.

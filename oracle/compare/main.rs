@@ -91,7 +91,7 @@ fn on_all_cores<T: Send>(seed: u64, parts: &[Part], run: fn(&Part, u64) -> T) ->
 }
 
 fn run(options: &Options) -> Vec<bool> {
-    let parts: Vec<Part> = [
+    let mut parts: Vec<Part> = [
         numbers::PARTS,
         sums::PARTS,
         &checks::parts(),
@@ -106,12 +106,17 @@ fn run(options: &Options) -> Vec<bool> {
         &writers::parts(),
     ]
     .concat();
+    // Last, since a part's place is its seed: the others go on to draw what they always drew.
+    let plain = parts.len();
+    parts.extend(checks::ADDRESSES);
+    parts.extend(reader::strict::parts());
     if options.small {
         return on_all_cores(options.seed, &parts, Part::small);
     }
     let outcomes: Vec<Outcome> = on_all_cores(options.seed, &parts, Part::full);
     let mut passed: Vec<bool> = outcomes.iter().map(|outcome| outcome.passed).collect();
-    passed.push(reader::enough(&outcomes));
+    passed.push(reader::enough(&outcomes[..plain]));
+    passed.extend(reader::strict::enough(&outcomes[plain..]));
     passed.extend(on_all_cores(options.seed, &parts, Part::notices));
     if options.all_patterns {
         passed.extend(all_patterns(options.seed));

@@ -46,6 +46,16 @@ pub const fn data_part<R: Reads>(of: &'static str) -> Part {
     )
 }
 
+/// For what looks at the address, of every command.
+pub const fn address_part<R: Reads>(of: &'static str) -> Part {
+    Part::new(
+        of,
+        "every address with every command: sound, another command, short, a wrong sum",
+        256 * 256 * 4,
+        addresses::<R>,
+    )
+}
+
 fn right<R: Reads>(trial: &mut Trial) {
     for length in frames::lengths(FRAME) {
         for _ in 0..trial.rounds(840) {
@@ -85,7 +95,7 @@ fn prolonged<R: Reads>(trial: &mut Trial) {
 }
 
 fn sum_refusal(reply: &[u8]) -> u8 {
-    if reply.last() == Some(&frames::sum(reply)) {
+    if frames::has_right_sum(reply) {
         0
     } else {
         3
@@ -147,6 +157,23 @@ fn neighbours<R: Reads>(trial: &mut Trial) {
             reply[place..place + 2].copy_from_slice(&value.to_be_bytes());
             frames::put_sum(&mut reply);
             R::compare(trial, &reply, command, Some(0));
+        }
+    }
+}
+
+fn addresses<R: Reads>(trial: &mut Trial) {
+    for command in (0..=255).step_by(trial.stride()) {
+        for address in 0..=255 {
+            let length = FRAME + trial.random.below(28);
+            let mut reply = frames::reply(&mut trial.random, command, length);
+            reply[1] = address;
+            frames::put_sum(&mut reply);
+            let other = command ^ trial.random.change();
+            R::compare(trial, &reply, command, Some(0));
+            R::compare(trial, &reply, other, Some(2));
+            R::compare(trial, &reply[..FRAME - 1], command, Some(1));
+            reply[length - 1] ^= trial.random.change();
+            R::compare(trial, &reply, command, Some(3));
         }
     }
 }

@@ -5,7 +5,7 @@ use crate::told::*;
 
 extern "C" {
     fn daly_calc_crc(p: *const u8, len: usize) -> u8;
-    fn daly_frame_check(p: *const u8, len: usize, command: u8) -> u8;
+    fn daly_frame_check(p: *const u8, len: usize, command: u8) -> FrameKindTold;
     fn daly_frame_refusal(p: *const u8, len: usize, k: usize) -> u8;
     fn daly_request(command: u8, enable: bool, soc_percent: f32, out: *mut [u8; FRAME]) -> u8;
     pub fn daly_soc(p: *const u8, len: usize) -> SocTold;
@@ -104,7 +104,7 @@ impl Port {
         self.answered(unsafe { daly_calc_crc(buffer.as_ptr(), buffer.len()) })
     }
 
-    pub fn frame_check(&mut self, buffer: &[u8], command: u8) -> u8 {
+    pub fn frame_check(&mut self, buffer: &[u8], command: u8) -> FrameKindTold {
         // SAFETY: as in calc_crc.
         self.answered(unsafe { daly_frame_check(buffer.as_ptr(), buffer.len(), command) })
     }

@@ -4,6 +4,8 @@ mod bad;
 mod copies;
 mod cuts;
 mod discards;
+mod echoes;
+mod exchange;
 mod kinds;
 mod long;
 mod model;
@@ -14,6 +16,7 @@ mod port;
 mod sides;
 mod states;
 mod streams;
+pub mod strict;
 mod told;
 mod wraps;
 

@@ -153,6 +153,9 @@ macro_rules! told {
 }
 
 told! {
+    FrameKindTold {
+        echo: Flag,
+    }
     SocTold {
         total_voltage: Bits,
         current: Bits,

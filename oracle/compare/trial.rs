@@ -2,6 +2,7 @@
 
 use crate::port::{Port, Spoil};
 use crate::random::Random;
+use std::collections::BTreeMap;
 use std::fmt::Debug;
 use std::process::ExitCode;
 
@@ -21,11 +22,15 @@ pub struct Part {
     run: fn(&mut Trial),
 }
 
+/// How often the cases had something in them, by its name and, where it has one, its number.
+pub type Seen = BTreeMap<(&'static str, usize), u64>;
+
 /// What a full run of one part came to.
 pub struct Outcome {
     pub passed: bool,
     pub streams: u64,
     pub pushes: u64,
+    pub seen: Seen,
 }
 
 /// One run of one part.
@@ -34,6 +39,7 @@ pub struct Trial {
     pub random: Random,
     /// Streams made so far, each counted once however often it is cut.
     pub streams: u64,
+    seen: Seen,
     name: String,
     /// A small run tests the part itself: it draws fewer cases and prints nothing.
     small: bool,
@@ -58,6 +64,11 @@ impl Trial {
         } else {
             1
         }
+    }
+
+    /// Something that a full run must have, whose name and number these are.
+    pub fn saw(&mut self, what: &'static str, which: usize) {
+        *self.seen.entry((what, which)).or_default() += 1;
     }
 
     /// Counts one case: what was found must be what was wanted, most often of the Rust.
@@ -144,6 +155,7 @@ impl Part {
             port: Port::new(spoil),
             random: Random::new(seed),
             streams: 0,
+            seen: Seen::new(),
             name: self.name(),
             small,
             cases: 0,
@@ -171,6 +183,7 @@ impl Part {
             passed,
             streams: trial.streams,
             pushes: trial.port.pushes,
+            seen: trial.seen,
         }
     }
 

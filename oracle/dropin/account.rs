@@ -2,12 +2,13 @@
 //! 01's words for the rest.
 
 mod counts;
-mod reader;
+pub mod reader;
 
 use crate::answer::{Answer, Value};
 use crate::frames::{self, FRAME, START};
 use crate::trial::{Part, Trial};
 use daly::account;
+use daly::protocol::FrameReader;
 use daly::Error;
 
 pub const PARTS: &[Part] = &[
@@ -29,7 +30,7 @@ pub const PARTS: &[Part] = &[
     Part {
         name: "account: a refused reader takes nothing and counts nothing",
         minimum: 20,
-        ask: reader::refused,
+        ask: |trial| reader::refused(trial, FrameReader::new),
     },
     Part {
         name: "account: the pack check, by its rule",

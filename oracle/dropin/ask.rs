@@ -25,7 +25,7 @@ pub fn answer(question: &Question) -> Answer {
             size,
             stream,
             cuttings,
-        } => Ok(read(request, *size, stream, cuttings)),
+        } => Ok(read(FrameReader::new, request, *size, stream, cuttings)),
     };
     values.map_or_else(|error| Answer::Refused(name(error)), Answer::Values)
 }
@@ -228,10 +228,16 @@ fn error_codes(codes: Vec<ErrorCode>) -> Vec<Value> {
 }
 
 /// What the reader says when it is made, what every push answers and the reader says then, and its bytes.
-fn read(request: &[u8], size: usize, stream: &[u8], cuttings: &[Vec<usize>]) -> Vec<Value> {
+pub fn read(
+    new: fn(&[u8], usize) -> FrameReader,
+    request: &[u8],
+    size: usize,
+    stream: &[u8],
+    cuttings: &[Vec<usize>],
+) -> Vec<Value> {
     let mut values = Vec::new();
     for cutting in cuttings {
-        let mut reader = FrameReader::new(request, size);
+        let mut reader = new(request, size);
         values.reserve(3 * cutting.len() + 3);
         values.extend([Value::Flag(reader.is_complete()), missing(&reader)]);
         let mut rest = stream;

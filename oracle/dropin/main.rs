@@ -9,6 +9,8 @@ mod differences;
 #[path = "../compare/reader/discards.rs"]
 mod discards;
 mod drawn;
+#[path = "../compare/reader/echoes.rs"]
+mod echoes;
 #[path = "../compare/frames.rs"]
 mod frames;
 #[path = "../compare/original.rs"]
@@ -17,9 +19,10 @@ mod plan;
 mod question;
 #[path = "../compare/random.rs"]
 mod random;
-/// The model of document 01's reader.
+/// The model of the documents' reader, and how the Rust stands beside a strict one.
 #[path = "../compare/reader"]
 mod reader {
+    pub mod exchange;
     pub mod model;
     pub mod told;
 }
@@ -29,6 +32,7 @@ mod requests;
 mod sides;
 #[path = "../compare/reader/streams.rs"]
 mod streams;
+mod strict;
 #[path = "../compare/told.rs"]
 mod told;
 mod trial;
@@ -37,7 +41,7 @@ use plan::Plan;
 use std::process::ExitCode;
 
 /// A full run of fewer cases in the parts of fixed size fails.
-const MINIMUM: u64 = 200_000;
+const MINIMUM: u64 = 214_000;
 
 /// Runs all parts; whether each test passed.
 fn run(plan: Plan) -> Vec<bool> {
@@ -48,6 +52,7 @@ fn run(plan: Plan) -> Vec<bool> {
         readers::PARTS,
         differences::PARTS,
         account::PARTS,
+        strict::PARTS,
     ]
     .concat();
     let fixed: Vec<(bool, u64)> = parts.iter().map(|part| part.run(plan)).collect();

@@ -44,7 +44,7 @@ pub const KINDS: [Make; 11] = [
 ];
 
 /// Cut at random, or not at all; the stream's last chunk is followed by an empty one.
-fn cutting(random: &mut Random, stream: &[u8]) -> Vec<usize> {
+pub fn cutting(random: &mut Random, stream: &[u8]) -> Vec<usize> {
     if random.below(8) == 0 {
         return vec![stream.len(), 0];
     }

@@ -12,6 +12,7 @@ mod checks;
 mod counts;
 #[path = "../compare/frames.rs"]
 mod frames;
+mod kinds;
 #[path = "../compare/one_frame.rs"]
 mod one_frame;
 #[path = "../compare/original.rs"]
@@ -41,6 +42,8 @@ fn run(seed: u64, small: bool) -> Vec<bool> {
         texts::PARTS.to_vec(),
         readers::PARTS.to_vec(),
         written::PARTS.to_vec(),
+        kinds::parts(),
+        readers::STRICT.to_vec(),
     ]
     .concat();
     let seeded = || (seed..).zip(&parts);

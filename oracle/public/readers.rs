@@ -13,7 +13,7 @@ pub const PARTS: &[Part] = &[
         "FrameReader by value",
         "new, every size to 1,200 and requests of 0 to 5 bytes",
         7_000,
-        new,
+        |trial| new(trial, false),
     ),
     Part::new(
         "FrameReader by value",
@@ -24,12 +24,20 @@ pub const PARTS: &[Part] = &[
     Part::new("FrameReader by value", "bad readers", 4_000, bad),
 ];
 
-/// The number, the number of frames wanted, and whether all else is zero.
-fn new(trial: &mut Trial) {
+/// Document 02's K1. A refused reader is not strict.
+pub const STRICT: [Part; 1] = [Part::new(
+    "FrameReader by value, strict",
+    "new, every size to 1,200 and requests of 0 to 5 bytes",
+    7_000,
+    |trial| new(trial, true),
+)];
+
+/// The number, the number of frames wanted, the mode, and whether all else is zero.
+fn new(trial: &mut Trial, strict: bool) {
     for size in (0..=1_200).step_by(trial.stride()) {
         for length in 0..=5 {
             let request = trial.random.bytes(length);
-            let opened = FrameReader::new(&request, size);
+            let opened = FrameReader::new(&request, size, strict);
             let c = opened.reader.counts;
             let zero = !c.mark && opened.reader.frames == [0; 1105];
             let rest = [
@@ -43,20 +51,21 @@ fn new(trial: &mut Trial) {
                 trial.port.answered(opened.number),
                 c.command,
                 c.wanted,
+                c.strict,
                 zero,
                 rest,
             );
             let wanted = match (length, size) {
-                (0..=2, _) => (7, 0, 0, true, [0; 5]),
-                (_, 1_106..) => (6, 0, 0, true, [0; 5]),
+                (0..=2, _) => (7, 0, 0, false, true, [0; 5]),
+                (_, 1_106..) => (6, 0, 0, false, true, [0; 5]),
                 _ => {
                     let rust = Rust::new(&request, size);
                     let fields = exposed::reader_fields(&rust);
-                    (0, fields.command, fields.n_frames, true, [0; 5])
+                    (0, fields.command, fields.n_frames, strict, true, [0; 5])
                 }
             };
             trial.check(wanted, ours, || {
-                format!("request {request:02X?} size {size}")
+                format!("request {request:02X?} size {size} strict {strict}")
             });
         }
     }
@@ -120,7 +129,7 @@ fn streams(trial: &mut Trial) {
         let (command, frames) = (frames::command(&mut trial.random), trial.random.below(6));
         let request = [0xA5, 0x40, command];
         let (mut reader, mut rust) = (
-            FrameReader::new(&request, FRAME * frames).reader,
+            FrameReader::new(&request, FRAME * frames, false).reader,
             Rust::new(&request, FRAME * frames),
         );
         let bytes = stream(trial, command, frames);
@@ -145,6 +154,7 @@ fn bad(trial: &mut Trial) {
     let good = Counts {
         command: 0x90,
         mark: false,
+        strict: false,
         taken: 0,
         discarded: 0,
         cleared: 0,

@@ -66,7 +66,7 @@ impl Reference {
             command,
             count,
             rust: FrameReader::new(request, size),
-            model: Model::new(command, size),
+            model: Model::new(command, size, false),
             status: 0,
         }
     }

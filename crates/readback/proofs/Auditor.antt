@@ -199,6 +199,10 @@ read-numbered meets strict address command many bytes n a h = meets .numbered st
 abbrev MeetsOne : Bool → ℕ → List ℕ → Type 0
 MeetsOne strict command reply = Meets strict command (reply ∷ []) reply
 
+-- a strict reader hears the address next to ours
+read-next : ReaderMeets → (command : ℕ) → MeetsOne true command (acknowledgement 0x41 command)
+read-next meets command = meets .one true 0x41 command _ (λ s e. absurd (omega (arith, e))) refl
+
 -- a reader that is not strict hears every address, our own too
 read-any : ReaderMeets → (address command : ℕ) → MeetsOne false command (acknowledgement address command)
 read-any meets address command = meets .one false address command _ (λ s e. true≢false (sym s)) refl

@@ -90,6 +90,11 @@ read-frames demand =
 read-sum : (c : Config) (i : ℕ) (w : List ℕ) → Valid c i w → byteAt w 12 ≡ sum (take 12 w)
 read-sum c i w v = v .total
 
+-- "valid in that mode": whatever came, no frame that a strict reader has collected is an echo
+read-sender : CutsDontMatter → (c : Config) → c .wanted ≤ 85 → c .strict ≡ true → (first : List ℕ) (more : List (List ℕ)) (i : ℕ)
+    → i < length (left c first more .collected) → byteAt (getD (left c first more .collected) i []) 1 ≡ 0x40 → ⊥
+read-sender demand c few strict first more i l = demand c few first more .collected .numbered i l .sender strict
+
 -- the number is read as soon as two frames are wanted, and a complete reader has both
 abbrev c95-two : Config
 c95-two = record { command = 0x95; wanted = 2; strict = false }

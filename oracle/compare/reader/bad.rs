@@ -75,7 +75,7 @@ fn beside(trial: &mut Trial) {
 }
 
 /// Every question is answered 8, and every byte stays.
-fn compare_bad(trial: &mut Trial, reader: &Reader, chunk: &[u8]) {
+pub fn compare_bad(trial: &mut Trial, reader: &Reader, chunk: &[u8]) {
     assert!(Model::of(reader).is_none(), "a good state");
     for way in Way::all(chunk_size(&mut trial.random)) {
         let after = trial.port.push(way, reader, chunk);

@@ -8,7 +8,7 @@ use crate::random::Random;
 pub type Discarded = fn(&mut Random, Asked, usize) -> Vec<u8>;
 
 /// One frame that is discarded.
-type Throw = fn(&mut Random, Asked, usize) -> Vec<u8>;
+pub type Throw = fn(&mut Random, Asked, usize) -> Vec<u8>;
 
 /// In document 01's order the four rules that discard, then all of them.
 pub const RULES: [Discarded; 5] = [
@@ -36,7 +36,7 @@ fn wrong_sums(_: &mut Random, _: Asked, count: usize) -> Vec<u8> {
 }
 
 /// Noise, then one thrown frame or more.
-fn thrown(random: &mut Random, asked: Asked, count: usize, throw: Throw) -> Vec<u8> {
+pub fn thrown(random: &mut Random, asked: Asked, count: usize, throw: Throw) -> Vec<u8> {
     let frames = 1 + random.below(count / FRAME);
     let mut bytes = before_start(random, asked, count - FRAME * frames);
     for _ in 0..frames {
@@ -103,7 +103,7 @@ pub fn discarding(
         let stream = [bytes, streams::run(random, asked, 1, last)].concat();
         let judged = if rule == WRONG_SUMS { count } else { 0 };
         let mut judged = stream.windows(FRAME).take(judged);
-        if judged.all(|frame| frames::sum(frame) != frame[FRAME - 1]) {
+        if judged.all(|frame| !frames::has_right_sum(frame)) {
             return stream;
         }
     }

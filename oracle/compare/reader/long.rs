@@ -114,6 +114,7 @@ const LENGTH: usize = 4_402_341_478;
 const COMPLETE: Counts = Counts {
     command: 0x90,
     mark: Flag(1),
+    strict: Flag(0),
     taken: 107_374_182,
     discarded: 107_374_169,
     cleared: 0,
@@ -137,7 +138,7 @@ fn one_chunk(trial: &mut Trial) {
     chunk[LENGTH - 13..].copy_from_slice(&SOC);
     trial.streams += 1;
     let request = [0xA5, 0x40, 0x90];
-    let Some(new) = opened::compare(trial, &request, 13) else {
+    let Some(new) = opened::compare(trial, &request, 13, false) else {
         return;
     };
     for way in [Way::ByValue, Way::InChunks((1 << 32) + 1)] {

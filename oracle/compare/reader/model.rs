@@ -1,8 +1,8 @@
-//! Document 01's reader, rule by rule. The Rust says nothing of bytes taken, frames cleared, the mark
-//! and refusal 8, and keeps what comes after completion: there this model decides.
+//! Document 01's reader, rule by rule, and document 02's strict mode (K1). The Rust says nothing of bytes taken, frames
+//! cleared, the mark and refusal 8, keeps what comes after completion, and has no strict mode: there this model decides.
 
 use super::told::{Counts, Reader, Said};
-use crate::frames::{self, DATA, FRAME, START};
+use crate::frames::{self, DATA, FRAME, HOST, START};
 
 /// Bytes that may be discarded before the status is 2.
 pub const MOST_DISCARDED: u64 = 512;
@@ -15,6 +15,7 @@ pub struct Model {
     pub command: u8,
     pub wanted: usize,
     pub mark: bool,
+    pub strict: bool,
     pub taken: u32,
     pub discarded: u32,
     pub cleared: u32,
@@ -23,19 +24,47 @@ pub struct Model {
     pub held: Vec<u8>,
 }
 
-/// What becomes of the next bytes.
-enum Judged {
-    Discarded(usize),
+/// What becomes of the next bytes, and by which rule.
+#[derive(Clone, Copy, Debug, PartialEq)]
+pub enum Judged {
+    /// So many stand before the next start byte.
+    Noise(usize),
+    WrongSum,
+    OtherCommand,
+    Echo,
+    OtherNumber,
     Held,
     Collected,
 }
 
+impl Judged {
+    fn discarded(self) -> usize {
+        match self {
+            Self::Noise(count) => count,
+            Self::WrongSum => 1,
+            Self::OtherCommand | Self::Echo | Self::OtherNumber => FRAME,
+            Self::Held | Self::Collected => 0,
+        }
+    }
+}
+
+/// One turn of the rules.
+pub struct Turn {
+    /// The place, counted from the first byte that was held before the push.
+    pub at: usize,
+    pub judged: Judged,
+    /// Frames that were collected and cleared before it.
+    pub collected: usize,
+    pub cleared: u32,
+}
+
 impl Model {
-    pub fn new(command: u8, size: usize) -> Self {
+    pub fn new(command: u8, size: usize, strict: bool) -> Self {
         Self {
             command,
             wanted: size.div_ceil(FRAME),
             mark: false,
+            strict,
             taken: 0,
             discarded: 0,
             cleared: 0,
@@ -52,6 +81,7 @@ impl Model {
             command: counts.command,
             wanted: counts.wanted,
             mark: counts.mark.0 == 1,
+            strict: counts.strict.0 == 1,
             taken: counts.taken,
             discarded: counts.discarded,
             cleared: counts.cleared,
@@ -64,6 +94,7 @@ impl Model {
         Counts {
             command: self.command,
             mark: self.mark.into(),
+            strict: self.strict.into(),
             taken: self.taken,
             discarded: self.discarded,
             cleared: self.cleared,
@@ -98,19 +129,32 @@ impl Model {
     }
 
     pub fn push(&mut self, chunk: &[u8]) -> Said {
+        self.push_seen(chunk, |_| ())
+    }
+
+    /// The same, and shows its turns.
+    pub fn push_seen(&mut self, chunk: &[u8], mut see: impl FnMut(Turn)) -> Said {
         let before = self.held.len();
         self.held.extend_from_slice(chunk);
         let (mut at, mut discarded) = (0, 0_u64);
         while !self.is_complete() {
-            match self.judge(at) {
+            let (collected, cleared) = (self.frames(), self.cleared);
+            let judged = self.judge(at);
+            see(Turn {
+                at,
+                judged,
+                collected,
+                cleared,
+            });
+            match judged {
                 Judged::Held => break,
-                Judged::Discarded(count) => {
-                    at += count;
-                    discarded += count as u64;
-                }
                 Judged::Collected => {
                     self.collected.extend_from_slice(&self.held[at..at + FRAME]);
                     at += FRAME;
+                }
+                _ => {
+                    at += judged.discarded();
+                    discarded += judged.discarded() as u64;
                 }
             }
         }
@@ -126,27 +170,31 @@ impl Model {
         Said { status, took }
     }
 
-    /// The first of document 01's rules that applies to the bytes from `at` on.
+    /// The first of document 01's rules that applies to the bytes from `at` on. In strict mode one more stands "after
+    /// the command check and before the number check".
     fn judge(&mut self, at: usize) -> Judged {
         let rest = &self.held[at..];
         let start = rest.iter().position(|byte| *byte == START);
         let before_start = start.unwrap_or(rest.len());
         if before_start > 0 {
-            return Judged::Discarded(before_start);
+            return Judged::Noise(before_start);
         }
         if rest.len() < FRAME {
             return Judged::Held;
         }
         let frame = &rest[..FRAME];
-        if frame[FRAME - 1] != frames::sum(frame) {
-            return Judged::Discarded(1);
+        if !frames::has_right_sum(frame) {
+            return Judged::WrongSum;
         }
         if frame[2] != self.command {
-            return Judged::Discarded(FRAME);
+            return Judged::OtherCommand;
+        }
+        if self.strict && frame[1] == HOST {
+            return Judged::Echo;
         }
         let number = usize::from(frame[DATA]);
         if self.wanted > 1 && !self.is_next(number) {
-            return Judged::Discarded(FRAME);
+            return Judged::OtherNumber;
         }
         Judged::Collected
     }

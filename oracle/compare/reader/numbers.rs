@@ -90,6 +90,7 @@ fn begun_again(trial: &mut Trial) {
     let counts = Counts {
         command: 0x95,
         mark: Flag(0),
+        strict: Flag(0),
         taken: 65,
         discarded: 0,
         cleared: 2,
@@ -116,6 +117,7 @@ fn zeros(trial: &mut Trial, count: usize, status: u8) {
     let counts = Counts {
         command: 0x90,
         mark: Flag(if status == 2 { 1 } else { 0 }),
+        strict: Flag(0),
         taken: count as u32 + 13,
         discarded: count as u32,
         cleared: 0,
@@ -137,6 +139,7 @@ fn example(trial: &mut Trial) {
     let counts = Counts {
         command: 0x90,
         mark: Flag(0),
+        strict: Flag(0),
         taken: 15,
         discarded: 2,
         cleared: 0,

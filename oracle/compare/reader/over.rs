@@ -28,15 +28,19 @@ fn compare(trial: &mut Trial, asked: Asked, chunks: &[&[u8]], count: usize) -> O
             return None;
         }
     }
+    check_count(trial, &sides, count).then_some(sides)
+}
+
+/// So many bytes were discarded.
+pub fn check_count(trial: &mut Trial, sides: &Sides, count: usize) -> bool {
     let over = count as u64 > MOST_DISCARDED;
     let status = if over { 2 } else { 0 };
     let counts = sides.ours.counts;
-    let agrees = trial.agrees(
+    trial.agrees(
         (count as u32, over.into(), status),
         (counts.discarded, counts.mark, sides.said.status),
         || format!("{count} to be discarded {}", sides.ours.shown()),
-    );
-    agrees.then_some(sides)
+    )
 }
 
 fn about_512(trial: &mut Trial) {

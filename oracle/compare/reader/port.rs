@@ -11,6 +11,7 @@ extern "C" {
         request: *const u8,
         len: usize,
         reply_size: usize,
+        strict: bool,
     ) -> u8;
     fn daly_reader_push(reader: *mut Reader, chunk: *const u8, len: usize) -> Turn;
     fn daly_push_by_value(reader: Reader, chunk: *const u8, len: usize) -> Pushed;
@@ -131,11 +132,12 @@ fn frames_lent(reader: &Reader, ask: impl FnOnce(*mut u8) -> PushedInto) -> Afte
 }
 
 impl Port {
-    pub fn open(&mut self, request: &[u8], size: usize) -> Opened {
-        let mut reader = Reader::spoiled();
+    pub fn open(&mut self, request: &[u8], size: usize, strict: bool) -> Opened {
+        let mut reader = Reader::spoiled(strict);
+        let (bytes, length) = (request.as_ptr(), request.len());
         // SAFETY: pointer and length are those of a live slice; of an empty one the pointer is not null. The
         // reader is alive and lent to nobody else.
-        let number = unsafe { daly_reader_new(&mut reader, request.as_ptr(), request.len(), size) };
+        let number = unsafe { daly_reader_new(&mut reader, bytes, length, size, strict) };
         self.answered(Opened { number, reader })
     }
 

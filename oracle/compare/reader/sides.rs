@@ -1,4 +1,5 @@
-//! One reader on three sides, the port's, the Rust's and the model's, compared after every push.
+//! One reader on three sides, the port's, the Rust's and the model's, compared after every push. The Rust has no strict
+//! mode: of a strict reader it is pushed what exchange.rs makes of the stream.
 
 use super::model::{Model, MOST_DISCARDED};
 use super::opened;
@@ -17,8 +18,8 @@ pub struct Sides {
     pub said: Said,
     pub rust: FrameReader,
     model: Model,
-    /// What came after completion: the Rust keeps it, ours leaves it with the caller.
-    left: Vec<u8>,
+    /// What the Rust is to have: the held bytes or, once complete, what came behind, which ours leaves with the caller.
+    pending: Vec<u8>,
 }
 
 /// The first place where two rows of bytes differ, with what each has there.
@@ -72,26 +73,36 @@ struct Theirs {
 impl Sides {
     /// Opens a reader on all sides; none where the port's is not the wanted one.
     pub fn new(trial: &mut Trial, asked: Asked) -> Option<Self> {
+        Self::opened(trial, asked, false)
+    }
+
+    /// The same in either mode.
+    pub fn opened(trial: &mut Trial, asked: Asked, strict: bool) -> Option<Self> {
         let request = asked.request(&mut trial.random);
-        let ours = opened::compare(trial, &request, asked.size)?;
+        let ours = opened::compare(trial, &request, asked.size, strict)?;
         Some(Self {
             ours,
             said: NOTHING,
-            model: Model::new(asked.command, asked.size),
+            model: Model::new(asked.command, asked.size, strict),
             rust: FrameReader::new(&request, asked.size),
-            left: Vec::new(),
+            pending: Vec::new(),
         })
     }
 
     /// A reader in this state on all sides; none where the state is bad.
     pub fn given(reader: &Reader) -> Option<Self> {
+        Self::given_beside(reader, reader.held())
+    }
+
+    /// The same; the Rust holds these bytes.
+    pub fn given_beside(reader: &Reader, pending: &[u8]) -> Option<Self> {
         let model = Model::of(reader)?;
         // Marked with a small count: the count has wrapped, the Rust's has not.
         let wrapped = model.mark && u64::from(model.discarded) <= MOST_DISCARDED;
         let rust = exposed::reader_with(ReaderFields {
             command: model.command,
             n_frames: model.wanted,
-            pending: &model.held,
+            pending,
             frames: &model.collected,
             discarded: model.discarded as usize + (usize::from(wrapped) << 32),
         });
@@ -100,20 +111,36 @@ impl Sides {
             said: NOTHING,
             model,
             rust,
-            left: Vec::new(),
+            pending: pending.to_vec(),
         })
     }
 
     /// Counts one case, and says whether all sides agree.
     pub fn push(&mut self, trial: &mut Trial, way: Way, chunk: &[u8]) -> bool {
+        self.push_beside(trial, way, chunk, chunk)
+    }
+
+    /// The same; the Rust is pushed these bytes, which are as many.
+    pub fn push_beside(
+        &mut self,
+        trial: &mut Trial,
+        way: Way,
+        chunk: &[u8],
+        exchanged: &[u8],
+    ) -> bool {
         let after = trial.port.push(way, &self.ours, chunk);
         let said = self.model.push(chunk);
-        let number = original::number(&self.rust.push(chunk));
-        self.left.extend_from_slice(&chunk[said.took..]);
+        let number = original::number(&self.rust.push(exchanged));
+        self.keep(exchanged, said.took);
         let found = (self.found(trial, &after), self.theirs(number));
         let wanted = (self.wanted(said), self.wanted_theirs());
         let agree = trial.agrees(wanted, found, || {
-            format!("{way:?} {} chunk {}", self.ours.shown(), shown(chunk))
+            let beside = match chunk == exchanged {
+                true => String::new(),
+                false => format!(" to the Rust {}", shown(exchanged)),
+            };
+            let reader = self.ours.shown();
+            format!("{way:?} {reader} chunk {}{beside}", shown(chunk))
         });
         self.ours = after.reader;
         self.said = Said {
@@ -121,6 +148,17 @@ impl Sides {
             took: self.said.took.wrapping_add(after.said.took),
         };
         agree
+    }
+
+    /// The Rust is then to have the last of all bytes: so many as are held or, once complete, all behind the last frame.
+    fn keep(&mut self, exchanged: &[u8], took: usize) {
+        let count = match self.model.is_complete() {
+            true if took > 0 => exchanged.len() - took,
+            true => self.pending.len() + exchanged.len(),
+            false => self.model.held.len(),
+        };
+        self.pending.extend_from_slice(exchanged);
+        self.pending.drain(..self.pending.len() - count);
     }
 
     fn wanted(&self, said: Said) -> Ours {
@@ -169,11 +207,6 @@ impl Sides {
 
     fn theirs(&self, number: u8) -> Theirs {
         let fields = exposed::reader_fields(&self.rust);
-        let pending = if self.model.is_complete() {
-            &self.left
-        } else {
-            &self.model.held
-        };
         Theirs {
             number,
             command: fields.command,
@@ -182,7 +215,7 @@ impl Sides {
             missing: self.rust.missing(),
             complete: self.rust.is_complete(),
             collected: difference(&self.model.collected, fields.frames),
-            pending: difference(pending, fields.pending),
+            pending: difference(&self.pending, fields.pending),
         }
     }
 }

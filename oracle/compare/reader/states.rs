@@ -17,17 +17,26 @@ pub fn begun(random: &mut Random) -> (Reader, Vec<u8>) {
     begun_with(random, wanted, collected)
 }
 
-/// The same, with so many frames wanted and so many of them collected. The first bytes of the stream
-/// are often held already.
+/// The same, with so many frames wanted and so many of them collected.
 pub fn begun_with(random: &mut Random, wanted: usize, collected: usize) -> (Reader, Vec<u8>) {
     let asked = Asked::drawn(random, wanted);
     let mut stream = streams::onward(random, asked, collected + 1);
     if collected == wanted {
         stream = streams::mixed(random, asked);
     }
+    holding(random, asked, collected, stream)
+}
+
+/// The same, for this stream. Its first bytes are often held already.
+pub fn holding(
+    random: &mut Random,
+    asked: Asked,
+    collected: usize,
+    mut stream: Vec<u8>,
+) -> (Reader, Vec<u8>) {
     let mut reader = drawn(random, asked);
     reader.counts.collected = collected;
-    if collected < wanted && random.below(4) > 0 {
+    if collected < asked.wanted && random.below(4) > 0 {
         let before = stream.iter().take_while(|byte| **byte != START).count();
         stream.drain(..before);
         let held = random.below(FRAME);

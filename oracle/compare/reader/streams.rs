@@ -1,6 +1,6 @@
 //! What a line could deliver to a reader, right and wrong.
 
-use crate::frames::{self, DATA, FRAME, START};
+use crate::frames::{self, DATA, FRAME, HOST, START};
 use crate::original;
 use crate::random::Random;
 
@@ -45,9 +45,9 @@ impl Asked {
 pub type Make = fn(&mut Random, Asked) -> Vec<u8>;
 
 /// Makes what stands before the frame with this number.
-type Thing = fn(&mut Random, Asked, usize) -> Vec<u8>;
+pub type Thing = fn(&mut Random, Asked, usize) -> Vec<u8>;
 
-const THINGS: [Thing; 11] = [
+pub const THINGS: [Thing; 11] = [
     noise,
     starts,
     swallowing,
@@ -86,7 +86,7 @@ pub fn noise(random: &mut Random, _: Asked, _: usize) -> Vec<u8> {
         .collect()
 }
 
-fn starts(random: &mut Random, _: Asked, _: usize) -> Vec<u8> {
+pub fn starts(random: &mut Random, _: Asked, _: usize) -> Vec<u8> {
     vec![START; 1 + random.below(30)]
 }
 
@@ -138,9 +138,9 @@ fn full_of_starts(random: &mut Random, asked: Asked, number: usize) -> Vec<u8> {
 }
 
 /// Our own request come back: address 40, the right command and sum, no data.
-fn echo(_: &mut Random, asked: Asked, _: usize) -> Vec<u8> {
+pub fn echo(_: &mut Random, asked: Asked, _: usize) -> Vec<u8> {
     let mut bytes = vec![0; FRAME];
-    bytes[..DATA].copy_from_slice(&[START, 0x40, asked.command, 0x08]);
+    bytes[..DATA].copy_from_slice(&[START, HOST, asked.command, 0x08]);
     frames::put_sum(&mut bytes);
     bytes
 }
@@ -150,13 +150,13 @@ fn repeated(random: &mut Random, asked: Asked, number: usize) -> Vec<u8> {
     run(random, asked, 1, number - 1)
 }
 
-fn wrong_sum(random: &mut Random, asked: Asked, number: usize) -> Vec<u8> {
+pub fn wrong_sum(random: &mut Random, asked: Asked, number: usize) -> Vec<u8> {
     let mut bytes = right(random, asked, number);
     bytes[FRAME - 1] ^= random.change();
     bytes
 }
 
-fn part_of_frame(random: &mut Random, asked: Asked, number: usize) -> Vec<u8> {
+pub fn part_of_frame(random: &mut Random, asked: Asked, number: usize) -> Vec<u8> {
     let mut bytes = right(random, asked, number);
     bytes.truncate(random.below(FRAME));
     bytes

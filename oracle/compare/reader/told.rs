@@ -11,6 +11,7 @@ pub const FENCE: [u8; 32] = *b"not ours to write, nor to read!!";
 pub struct Counts {
     pub command: u8,
     pub mark: Flag,
+    pub strict: Flag,
     pub taken: u32,
     pub discarded: u32,
     pub cleared: u32,
@@ -28,11 +29,12 @@ pub struct Reader {
 }
 
 impl Reader {
-    /// A place to make a reader in, where no byte is as that reader has it.
-    pub fn spoiled() -> Self {
+    /// A place to make a reader of this mode in, where no byte is as that reader has it.
+    pub fn spoiled(strict: bool) -> Self {
         let counts = Counts {
             command: 0x5A,
             mark: Flag(1),
+            strict: (!strict).into(),
             taken: !0,
             discarded: !0,
             cleared: !0,
@@ -99,6 +101,7 @@ impl Counts {
     pub const ZERO: Self = Self {
         command: 0,
         mark: Flag(0),
+        strict: Flag(0),
         taken: 0,
         discarded: 0,
         cleared: 0,
@@ -164,9 +167,10 @@ impl Answer for Toggled<'_> {
 /// so are all the frames' bytes together. Of those only the compared ones are spoiled.
 fn flip_one(others: &mut [&mut dyn Answer], reader: &mut Reader, compared: usize, bit: usize) {
     let counts = &mut reader.counts;
-    let fields: [&mut dyn Answer; 8] = [
+    let fields: [&mut dyn Answer; 9] = [
         &mut counts.command,
         &mut Toggled(&mut counts.mark),
+        &mut Toggled(&mut counts.strict),
         &mut counts.taken,
         &mut counts.discarded,
         &mut counts.cleared,

@@ -29,18 +29,21 @@ fn near_the_end(random: &mut Random, within: usize) -> u32 {
     u32::MAX - random.below(within) as u32
 }
 
-/// Every other time the discarded bytes are few and not marked, and only the other counts wrap.
+/// Every other round the discarded bytes are few and not marked, and only the other counts wrap.
+pub fn wrap_soon(random: &mut Random, counts: &mut Counts, round: u64) {
+    counts.taken = near_the_end(random, 60);
+    counts.cleared = near_the_end(random, 3);
+    (counts.mark, counts.discarded) = match round % 2 {
+        0 => (Flag(1), near_the_end(random, 60)),
+        _ => (Flag(0), random.below(400) as u32),
+    };
+}
+
 fn soon(trial: &mut Trial) {
     for round in 0..trial.rounds(60_000) {
         let random = &mut trial.random;
         let (mut reader, stream) = states::begun(random);
-        let counts = &mut reader.counts;
-        counts.taken = near_the_end(random, 60);
-        counts.cleared = near_the_end(random, 3);
-        (counts.mark, counts.discarded) = match round % 2 {
-            0 => (Flag(1), near_the_end(random, 60)),
-            _ => (Flag(0), random.below(400) as u32),
-        };
+        wrap_soon(random, &mut reader.counts, round);
         trial.streams += 1;
         let mut sides = Sides::given(&reader).expect("a bad state");
         for chunk in cut(&mut trial.random, &stream) {

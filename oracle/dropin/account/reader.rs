@@ -51,17 +51,20 @@ pub fn readers(trial: &mut Trial) {
             for _ in 0..trial.rounds(4) {
                 let asked = Asked::drawn(&mut trial.random, wanted);
                 let stream = make(&mut trial.random, asked);
-                push(trial, asked, &stream);
+                push(trial, asked, &stream, false);
             }
         }
     }
 }
 
 /// The whole stream, cut at random, into a reader and into the model.
-fn push(trial: &mut Trial, asked: Asked, stream: &[u8]) {
+pub fn push(trial: &mut Trial, asked: Asked, stream: &[u8], strict: bool) {
     let request = asked.request(&mut trial.random);
-    let mut reader = FrameReader::new(&request, asked.size);
-    let mut model = Model::new(asked.command, asked.size);
+    let mut reader = match strict {
+        true => FrameReader::new_strict(&request, asked.size),
+        false => FrameReader::new(&request, asked.size),
+    };
+    let mut model = Model::new(asked.command, asked.size, strict);
     let (mut wanted, mut found) = (modelled(&model), accounted(&reader));
     let chunks = streams::cut(&mut trial.random, stream);
     let lengths: Vec<usize> = chunks.iter().map(|chunk| chunk.len()).collect();
@@ -83,10 +86,13 @@ fn push(trial: &mut Trial, asked: Asked, stream: &[u8]) {
     trial.judge(&Answer::Values(wanted), Answer::Values(found), &question);
 }
 
-pub fn refused(trial: &mut Trial) {
+/// A way to make a reader.
+type New = fn(&[u8], usize) -> FrameReader;
+
+pub fn refused(trial: &mut Trial, new: New) {
     for size in (1_106..).step_by(977).take(10) {
         for (request, number) in [(&[0xA5, 0x40][..], 7), (&[0xA5, 0x40, 0x90], 6)] {
-            let mut reader = FrameReader::new(request, size);
+            let mut reader = new(request, size);
             let pushed = reader.push_counted(&frames::frame(&mut trial.random, 0x90, &[1]));
             let mut found = vec![Value::Whole(pushed.took as i64)];
             found.push(whole(pushed.said.map_or_else(Error::number, |()| 0)));

@@ -1,5 +1,5 @@
-//! `FrameReader::new_strict`, which the Rust has not (document 02, K1): on streams with echoes, beside the Rust's reader on the
-//! same streams, cut alike, in which every echo is exchanged (compare/reader/exchange.rs).
+//! `FrameReader::new_strict`, which the Rust has not (document 02, K1): on streams with echoes, beside the Rust's reader
+//! on the same streams, cut alike, in which every echo is exchanged (compare/reader/exchange.rs).
 
 use crate::account::reader;
 use crate::answer::Answer;

@@ -1,5 +1,5 @@
-//! What the frame check tells apart (document 02, K1), by the names that the port has for it, and the check of a reply, which
-//! takes both sound kinds.
+//! What the frame check tells apart (document 02, K1), by the names that the port has for it, and the check of a reply,
+//! which takes both sound kinds.
 
 use crate::buffers::number;
 use crate::frames::{self, HOST};

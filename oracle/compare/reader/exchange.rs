@@ -1,6 +1,6 @@
-//! How a strict reader stands beside the Rust, which has no strict mode (document 02, K1). Where the rules find an echo, its
-//! 13 bytes are exchanged for a right frame of another command. The Rust throws that away whole, as a strict reader does
-//! the echo, so on either stream the same frames are collected, and as many bytes held and discarded.
+//! How a strict reader stands beside the Rust, which has no strict mode (document 02, K1). Where the rules find an echo,
+//! its 13 bytes are exchanged for a right frame of another command. The Rust throws that away whole, as a strict reader
+//! does the echo, so on either stream the same frames are collected, and as many bytes held and discarded.
 
 use super::model::{Judged, Model, Turn};
 use crate::frames::{self, FRAME};

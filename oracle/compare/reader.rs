@@ -47,11 +47,15 @@ pub const LONG: [Part; 3] = long::PARTS;
 
 /// Whether the parts together had streams and pushes enough.
 pub fn enough(outcomes: &[Outcome]) -> bool {
+    had(OF, outcomes, STREAMS, PUSHES)
+}
+
+fn had(of: &str, outcomes: &[Outcome], least: u64, least_pushes: u64) -> bool {
     let streams: u64 = outcomes.iter().map(|outcome| outcome.streams).sum();
     let pushes: u64 = outcomes.iter().map(|outcome| outcome.pushes).sum();
-    let enough = streams >= STREAMS && pushes >= PUSHES;
+    let enough = streams >= least && pushes >= least_pushes;
     println!(
-        "{} {OF}, all parts together: {streams} streams (at least {STREAMS}), {pushes} pushes (at least {PUSHES})",
+        "{} {of}, all parts together: {streams} streams (at least {least}), {pushes} pushes (at least {least_pushes})",
         verdict(enough)
     );
     enough

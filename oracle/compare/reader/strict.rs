@@ -8,6 +8,7 @@ use super::bad;
 use super::discards;
 use super::echoes;
 use super::exchange::{exchange, Exchanged};
+use super::had;
 use super::kinds::way;
 use super::model::{Model, MOST_WANTED};
 use super::opened;
@@ -18,7 +19,7 @@ use super::streams::{self, cut, Asked, Make, Thing};
 use super::wraps;
 use crate::random::Random;
 use crate::told::Flag;
-use crate::trial::{verdict, Outcome, Part, Trial};
+use crate::trial::{Outcome, Part, Trial};
 use dalybms_lib::protocol::exposed;
 
 pub const OF: &str = "FrameReader, strict";
@@ -284,14 +285,7 @@ fn bad_states(trial: &mut Trial) {
 
 /// Whether the parts together had streams, pushes and all that there is to meet.
 pub fn enough(outcomes: &[Outcome]) -> Vec<bool> {
-    let streams: u64 = outcomes.iter().map(|outcome| outcome.streams).sum();
-    let pushes: u64 = outcomes.iter().map(|outcome| outcome.pushes).sum();
-    let enough = streams >= STREAMS && pushes >= PUSHES;
-    println!(
-        "{} {OF}, all parts together: {streams} streams (at least {STREAMS}), {pushes} pushes (at least {PUSHES})",
-        verdict(enough)
-    );
-    let mut passed = vec![enough];
+    let mut passed = vec![had(OF, outcomes, STREAMS, PUSHES)];
     passed.extend(covered::all(outcomes));
     passed
 }

@@ -14,6 +14,16 @@ const STREAM: usize = 1 << 17;
 const KIB: usize = 1 << 10;
 const MIB: usize = 1 << 20;
 
+#[derive(Clone, Copy, Debug, Default, PartialEq)]
+#[repr(C)]
+pub struct Discarded {
+    noise: u32,
+    sum: u32,
+    command: u32,
+    number: u32,
+    echo: u32,
+}
+
 #[derive(Clone, Copy, Default)]
 #[repr(C)]
 pub struct Counts {
@@ -21,7 +31,7 @@ pub struct Counts {
     mark: bool,
     strict: bool,
     taken: u32,
-    discarded: u32,
+    discarded: Discarded,
     cleared: u32,
     wanted: usize,
     collected: usize,
@@ -360,7 +370,11 @@ fn same_turns() {
     // SAFETY: the reader is alive and lent to nobody else, and the stream is so long.
     unsafe { daly_reader_push(&mut reader, case.stream.as_ptr(), case.stream.len()) };
     assert!(rust.push(case.rust_stream()).is_ok());
-    assert_eq!((reader.counts.taken, reader.counts.discarded), (26, 13));
+    let echo = Discarded {
+        echo: 13,
+        ..Discarded::default()
+    };
+    assert_eq!((reader.counts.taken, reader.counts.discarded), (26, echo));
     assert_eq!(reader.frames[..13], rust.into_bytes());
 }
 

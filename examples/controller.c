@@ -6,13 +6,15 @@
  * COMMANDS is one of 90 (charge), 91 and 92 (extremes), 93 (MOSFETs), 94 (status), 95 (cells; the default),
  * 96 (sensors), 97 (balance) and 98 (faults), or several of them with commas between (90,95,90), or `all`.
  * Where several are asked, a line as `asked 90` stands above each reading. How many cells and sensors there
- * are is asked of the board, by 94, unless it is given. Build it by
+ * are is asked of the board, by 94, unless it is given. What fails is told on standard error; where a reply was
+ * waited for, a second line tells how many bytes were thrown away meanwhile, and why. Build it by
  *
  *     gcc -I include -o controller examples/controller.c target/staticlib/libdaly.a
  *
  * rust/examples/controller.rs is the same in Rust.
  */
 #define _DEFAULT_SOURCE
+#include <inttypes.h>
 #include <stdio.h>
 #include <stdlib.h>
 #include <string.h>
@@ -28,6 +30,7 @@ struct question {
 };
 
 struct reply {
+    struct daly_discarded discarded; /* while it was waited for */
     size_t length;
     uint8_t bytes[DALY_FRAMES];
 };
@@ -44,30 +47,45 @@ static int refused(uint8_t number)
     return FAILED;
 }
 
-/*
- * One reply. The reader is strict, since an adapter may send our question back. No more is read than the next frame
- * lacks, so what follows stays on the line.
- */
+/* Behind what is told of a reply that failed: why bytes were thrown away, in the words of readreply. */
+static int tell_discarded(struct daly_discarded why, int status)
+{
+    fprintf(stderr, "noise %" PRIu32 " sum %" PRIu32 " command %" PRIu32 " number %" PRIu32 " echo %" PRIu32 "\n",
+            why.noise, why.sum, why.command, why.number, why.echo);
+    return status;
+}
+
+/* Until the reader has all frames. No more is read than the next one lacks, so what follows stays on the line. */
+static int fill(int line, long until, struct daly_reader *reader)
+{
+    for (size_t missing = daly_reader_missing(reader).missing; missing > 0;) {
+        uint8_t chunk[DALY_FRAME];
+        size_t length;
+        int status = receive(line, until, missing, chunk, &length);
+        if (status != DONE)
+            return status;
+        struct daly_said said = daly_reader_push(reader, chunk, length);
+        if (said.status != DALY_DONE)
+            return refused(said.status);
+        missing = said.missing;
+    }
+    return DONE;
+}
+
+/* One reply. The reader is strict, since an adapter may send our question back. */
 static int collect(int line, long until, const uint8_t *request, size_t reply_size, struct reply *reply)
 {
     struct daly_reader reader;
     uint8_t opened = daly_reader_new(&reader, request, DALY_FRAME, reply_size, true);
     if (opened != DALY_DONE)
         return refused(opened);
-    for (size_t missing = daly_reader_missing(&reader).missing; missing > 0;) {
-        uint8_t chunk[DALY_FRAME];
-        size_t length;
-        int status = receive(line, until, missing, chunk, &length);
-        if (status != DONE)
-            return status;
-        struct daly_said said = daly_reader_push(&reader, chunk, length);
-        if (said.status != DALY_DONE)
-            return refused(said.status);
-        missing = said.missing;
-    }
+    int status = fill(line, until, &reader);
+    reply->discarded = reader.counts.discarded;
+    if (status != DONE)
+        return tell_discarded(reply->discarded, status);
     struct daly_list copied = daly_reader_copy_out(&reader, reply->bytes, sizeof reply->bytes);
     reply->length = copied.count;
-    return copied.number == DALY_DONE ? DONE : refused(copied.number);
+    return copied.number == DALY_DONE ? DONE : tell_discarded(reply->discarded, refused(copied.number));
 }
 
 /* ---- Questions */
@@ -116,7 +134,7 @@ static int ask_counts(int line, struct counts *counts)
         return status;
     struct daly_status told = daly_status(reply.bytes, reply.length);
     if (told.number != DALY_DONE)
-        return refused(told.number);
+        return tell_discarded(reply.discarded, refused(told.number));
     *counts = (struct counts){true, told.cells, told.temperature_sensors};
     return DONE;
 }
@@ -297,7 +315,10 @@ static int answer(int line, struct words words, uint8_t command, struct counts *
     }
     if (status == DONE)
         status = ask(line, asked, &reply);
-    return status == DONE ? print_reading(asked, &reply) : status;
+    if (status != DONE)
+        return status;
+    status = print_reading(asked, &reply);
+    return status == DONE ? DONE : tell_discarded(reply.discarded, status);
 }
 
 /* All questions, also after one that failed; a line that hung up answers none. */

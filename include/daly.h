@@ -28,9 +28,9 @@ extern "C" {
 
 /* ---- The version, as in CHANGELOG.md */
 
-#define DALY_VERSION "0.2.0"
+#define DALY_VERSION "0.3.0"
 #define DALY_VERSION_MAJOR 0
-#define DALY_VERSION_MINOR 2
+#define DALY_VERSION_MINOR 3
 #define DALY_VERSION_PATCH 0
 
 /* ---- Refusals */
@@ -249,24 +249,40 @@ struct daly_pack daly_pack_check(const uint16_t *cells, size_t n_cells, uint16_t
 /* ---- The reader of a reply's frames */
 
 /*
+ * Why bytes were discarded: how many for each reason, modulo 2^32. A bad cable shows as noise and wrong sums, a second
+ * master as frames of another command. Where the reader is not strict, `echo` is 0: there an echo is collected, or its
+ * number is wrong.
+ */
+struct daly_discarded {
+    uint32_t noise;   /* bytes before an A5 */
+    uint32_t sum;     /* wrong sums, one byte each time: what follows it, up to the next A5, is noise */
+    uint32_t command; /* right frames of another command, 13 bytes each */
+    uint32_t number;  /* frames whose number is not the next, nor 1, 13 bytes each */
+    uint32_t echo;    /* echoes, by a strict reader, 13 bytes each */
+};
+
+/* All bytes discarded: the sum of the five, modulo 2^32. */
+uint32_t daly_discarded_all(struct daly_discarded discarded);
+
+/*
  * Bytes come in any chunks; how they are cut does not matter. Bytes taken are at all times
- * held + 13 * collected + discarded + 13 * cleared, modulo 2^32.
+ * held + 13 * collected + all discarded + 13 * cleared, modulo 2^32.
  */
 struct daly_counts {
     uint8_t command;
-    bool mark;          /* more than 512 bytes were ever discarded */
-    bool strict;        /* echoes are discarded */
-    uint32_t taken;     /* bytes, modulo 2^32 */
-    uint32_t discarded; /* bytes, modulo 2^32 */
-    uint32_t cleared;   /* frames dropped because the board began again, modulo 2^32 */
-    size_t wanted;      /* frames */
-    size_t collected;   /* frames */
-    size_t held;        /* bytes */
+    bool mark;        /* more than 512 bytes were ever discarded, all five counts together */
+    bool strict;      /* echoes are discarded */
+    uint32_t taken;   /* bytes, modulo 2^32 */
+    struct daly_discarded discarded;
+    uint32_t cleared; /* frames dropped because the board began again, modulo 2^32 */
+    size_t wanted;    /* frames */
+    size_t collected; /* frames */
+    size_t held;      /* bytes */
 };
 
 /*
- * The collected frames stand at the front of `frames`, the held bytes behind them. 1,152 bytes, aligned to 8:
- * the counts at 0, in 40 bytes, the frames at 40, then 7 of padding.
+ * The collected frames stand at the front of `frames`, the held bytes behind them. 1,168 bytes, aligned to 8:
+ * the counts at 0, in 56 bytes, the frames at 56, then 7 of padding.
  * You have it, and each call is lent it where it lies. One call a turn is enough: a push tells how many bytes the
  * next frame then still needs, as daly_reader_missing does of a new reader, and that is 0 when and only when the
  * reader is complete or bad. While it is more, read at most so many bytes and push them; examples/controller.c
@@ -284,9 +300,9 @@ struct daly_reader {
  * all zero, and so not strict. What lay in it before is not looked at.
  *
  * Strict mode is for two-wire lines, where the adapter returns what we sent. A strict reader discards an echo whole:
- * a right frame of the command with our own address, 40 hexadecimal, in byte 1. Its 13 bytes count as discarded, also
- * among the 512. Its number is not read, so an echo numbered 1 does not begin the reply again. A reader that is not
- * strict looks at no address: where one frame is wanted, the echo is the reply.
+ * a right frame of the command with our own address, 40 hexadecimal, in byte 1. Its 13 bytes count as discarded, as
+ * `echo`, also among the 512. Its number is not read, so an echo numbered 1 does not begin the reply again. A reader
+ * that is not strict looks at no address: where one frame is wanted, the echo is the reply.
  */
 uint8_t daly_reader_new(struct daly_reader *reader, const uint8_t *request, size_t len, size_t reply_size, bool strict);
 

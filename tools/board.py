@@ -1,6 +1,8 @@
 """A board played on a pseudo-terminal, for tools/test_controllers. An importer sets sys.dont_write_bytecode first."""
+import fcntl
 import os
 import select
+import termios
 import threading
 import time
 import tty
@@ -65,9 +67,16 @@ class Board:
                 self.send_back(question)
             time.sleep(late)
             if sends is HANG_UP:
+                self.await_read()
                 self.hang_up()
                 return
             self.send(sends)
+
+    def await_read(self):
+        """Until what was sent is read: a line that hangs up may lose it."""
+        time.sleep(0.1)  # what was written moves on for a while
+        while any(fcntl.ioctl(self.line, termios.FIONREAD, bytes(4))) and not self.over.is_set():
+            time.sleep(0.01)
 
     def hang_up(self):
         os.close(self.board)

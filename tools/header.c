@@ -32,6 +32,9 @@ static const uint8_t soc[13] = {0xA5, 0x01, 0x90, 0x08, 0x02, 0x0B, 0x00, 0x00, 
 /* The 90 question, P1. On a two-wire line it comes back. */
 static const uint8_t p1[13] = {0xA5, 0x40, 0x90, 0x08, 0, 0, 0, 0, 0, 0, 0, 0, 0x7D};
 
+/* The 95 question, likewise. */
+static const uint8_t ask_cells[13] = {0xA5, 0x40, 0x95, 0x08, 0, 0, 0, 0, 0, 0, 0, 0, 0x82};
+
 static void requests_and_frames(void)
 {
     const uint8_t p2[13] = {0xA5, 0x40, 0x21, 0x08, 0, 0, 0, 0, 0, 0, 0, 3, 0x11};
@@ -238,18 +241,26 @@ static void pack(void)
     test(p.number == 0 && p.agrees && p.difference == 0, "daly_pack_check: no cells and a total of 0");
 }
 
+/* Whether bytes were discarded for these reasons, in the order of document 02's words, and the one count is their sum. */
+static bool lost(const struct daly_reader *reader, uint32_t noise, uint32_t sum, uint32_t command, uint32_t number, uint32_t echo)
+{
+    struct daly_discarded d = reader->counts.discarded;
+    return d.noise == noise && d.sum == sum && d.command == command && d.number == number && d.echo == echo &&
+           daly_discarded_all(d) == noise + sum + command + number + echo;
+}
+
 /* Document 01's example, cut behind the noise; then a reader whose fields contradict one another. */
 static struct daly_reader pushed(struct daly_reader reader)
 {
     const uint8_t noise[2] = {0x00, 0xA5};
     struct daly_said said = daly_reader_push(&reader, noise, 2);
     struct daly_missing m = daly_reader_missing(&reader);
-    test(said.status == 0 && said.missing == 12 && said.took == 2 && reader.counts.discarded == 1 && reader.counts.held == 1, "daly_reader_push: noise and a start");
+    test(said.status == 0 && said.missing == 12 && said.took == 2 && lost(&reader, 1, 0, 0, 0, 0) && reader.counts.held == 1, "daly_reader_push: noise and a start");
     test(m.number == 0 && m.missing == 12, "daly_reader_missing");
 
     said = daly_reader_push(&reader, soc, 13);
     const struct daly_counts *c = &reader.counts;
-    test(said.status == 0 && said.missing == 0 && said.took == 13 && c->taken == 15 && c->discarded == 2 && c->cleared == 0 && c->collected == 1 && c->held == 0 &&
+    test(said.status == 0 && said.missing == 0 && said.took == 13 && c->taken == 15 && lost(&reader, 1, 1, 0, 0, 0) && c->cleared == 0 && c->collected == 1 && c->held == 0 &&
              memcmp(reader.frames, soc, 13) == 0,
          "daly_reader_push: document 01's example");
 
@@ -267,8 +278,10 @@ static struct daly_reader pushed(struct daly_reader reader)
 static bool same(const struct daly_reader *a, const struct daly_reader *b)
 {
     const struct daly_counts *x = &a->counts, *y = &b->counts;
-    return x->command == y->command && x->mark == y->mark && x->strict == y->strict && x->taken == y->taken && x->discarded == y->discarded && x->cleared == y->cleared &&
-           x->wanted == y->wanted && x->collected == y->collected && x->held == y->held && memcmp(a->frames, b->frames, DALY_FRAMES) == 0;
+    const struct daly_discarded *d = &y->discarded;
+    return x->command == y->command && x->mark == y->mark && x->strict == y->strict && x->taken == y->taken &&
+           lost(a, d->noise, d->sum, d->command, d->number, d->echo) && x->cleared == y->cleared && x->wanted == y->wanted &&
+           x->collected == y->collected && x->held == y->held && memcmp(a->frames, b->frames, DALY_FRAMES) == 0;
 }
 
 static void reader(void)
@@ -310,10 +323,10 @@ static void echo_and_reply(void)
     uint8_t line[26];
     memcpy(line, p1, 13);
     memcpy(line + 13, soc, 13);
-    struct daly_reader strict, cut, other, wanted = {.counts = {.command = 0x90, .strict = true, .taken = 26, .discarded = 13, .wanted = 1, .collected = 1}};
+    struct daly_reader strict, cut, other, wanted = {.counts = {.command = 0x90, .strict = true, .taken = 26, .discarded = {.echo = 13}, .wanted = 1, .collected = 1}};
     memcpy(wanted.frames, soc, 13);
     struct daly_said said = pushed_new(&strict, p1, 1, true, line, 26, 26);
-    test(said.status == 0 && said.missing == 0 && said.took == 26 && memcmp(strict.frames, soc, 13) == 0 && strict.counts.discarded == 13,
+    test(said.status == 0 && said.missing == 0 && said.took == 26 && memcmp(strict.frames, soc, 13) == 0 && lost(&strict, 0, 0, 0, 0, 13),
          "strict: an echo is discarded, and the reply collected");
     bool good = same(&strict, &wanted);
     for (size_t size = 1; size < 26; size++) {
@@ -322,27 +335,26 @@ static void echo_and_reply(void)
     }
     test(good, "strict: however it is cut");
     said = pushed_new(&other, p1, 1, false, line, 26, 26);
-    test(said.status == 0 && said.missing == 0 && said.took == 13 && memcmp(other.frames, p1, 13) == 0 && other.counts.discarded == 0 && !other.counts.strict,
+    test(said.status == 0 && said.missing == 0 && said.took == 13 && memcmp(other.frames, p1, 13) == 0 && lost(&other, 0, 0, 0, 0, 0) && !other.counts.strict,
          "not strict: the echo is collected");
 }
 
 /* Frames 1 and 2 of three, an echo numbered 1, and frame 3. */
 static void echo_with_a_number(void)
 {
-    const uint8_t question[13] = {0xA5, 0x40, 0x95, 0x08, 0, 0, 0, 0, 0, 0, 0, 0, 0x82};
     uint8_t line[52];
     frame(line, 0x95, (const uint8_t[8]){1});
     frame(line + 13, 0x95, (const uint8_t[8]){2});
-    memcpy(line + 26, question, 13);
+    memcpy(line + 26, ask_cells, 13);
     line[26 + 4]++;
     line[26 + 12]++;
     frame(line + 39, 0x95, (const uint8_t[8]){3});
     struct daly_reader strict, other;
-    struct daly_said said = pushed_new(&strict, question, 3, true, line, 52, 52);
-    test(said.missing == 0 && said.took == 52 && strict.counts.cleared == 0 && strict.counts.discarded == 13 && strict.counts.collected == 3,
+    struct daly_said said = pushed_new(&strict, ask_cells, 3, true, line, 52, 52);
+    test(said.missing == 0 && said.took == 52 && strict.counts.cleared == 0 && lost(&strict, 0, 0, 0, 0, 13) && strict.counts.collected == 3,
          "strict: an echo numbered 1 drops nothing");
-    said = pushed_new(&other, question, 3, false, line, 52, 52);
-    test(said.missing == 13 && other.counts.cleared == 2 && other.counts.discarded == 13 && other.counts.collected == 1,
+    said = pushed_new(&other, ask_cells, 3, false, line, 52, 52);
+    test(said.missing == 13 && other.counts.cleared == 2 && lost(&other, 0, 0, 0, 13, 0) && other.counts.collected == 1,
          "not strict: it begins the reply again");
 }
 
@@ -352,9 +364,9 @@ static void echo_with_a_start(void)
     const uint8_t line[13] = {0xA5, 0x40, 0x90, 0x08, 0, 0xA5, 0, 0, 0, 0, 0, 0, 0x22};
     struct daly_reader whole, cut;
     struct daly_said said = pushed_new(&whole, p1, 1, true, line, 13, 13);
-    test(said.missing == 13 && whole.counts.discarded == 13 && whole.counts.held == 0, "strict: an echo is discarded whole");
+    test(said.missing == 13 && lost(&whole, 0, 0, 0, 0, 13) && whole.counts.held == 0, "strict: an echo is discarded whole");
     said = pushed_new(&cut, p1, 1, true, line, 13, 1);
-    test(said.missing == 13 && cut.counts.discarded == 13 && cut.counts.held == 0, "strict: whole, in single bytes");
+    test(said.missing == 13 && lost(&cut, 0, 0, 0, 0, 13) && cut.counts.held == 0, "strict: whole, in single bytes");
 }
 
 /* 39 echoes are 507 bytes, and 40 are 520. */
@@ -365,9 +377,80 @@ static void many_echoes(void)
         memcpy(line + i * DALY_FRAME, p1, DALY_FRAME);
     struct daly_reader few, many;
     struct daly_said said = pushed_new(&few, p1, 1, true, line, 39 * DALY_FRAME, 39 * DALY_FRAME);
-    test(said.status == DALY_DONE && said.missing == 13 && few.counts.discarded == 507 && !few.counts.mark, "strict: 39 echoes");
+    test(said.status == DALY_DONE && said.missing == 13 && lost(&few, 0, 0, 0, 0, 507) && !few.counts.mark, "strict: 39 echoes");
     said = pushed_new(&many, p1, 1, true, line, sizeof line, sizeof line);
-    test(said.status == DALY_UNEXPECTED_FRAME && said.missing == 13 && many.counts.discarded == 520 && many.counts.mark, "strict: 40 echoes are over 512 bytes");
+    test(said.status == DALY_UNEXPECTED_FRAME && said.missing == 13 && lost(&many, 0, 0, 0, 0, 520) && many.counts.mark, "strict: 40 echoes are over 512 bytes");
+}
+
+/*
+ * A line that loses bytes for every reason, in this order: 3 of noise; a wrong sum, whose 12 other bytes are noise, twice;
+ * three frames of another command, of which one is a question; frames 2 and 3, where 1 is the next; our own question. Frame
+ * 1 is then collected. No two reasons have the same number, so none can stand for another.
+ */
+enum { NOISE = 3 + 2 * 12, SUMS = 2, OTHERS = 3 * DALY_FRAME, NUMBERS = 2 * DALY_FRAME, ECHOES = DALY_FRAME };
+
+static size_t make_losses(uint8_t line[10 * DALY_FRAME])
+{
+    uint8_t *at = line;
+    memcpy(at, (const uint8_t[3]){0x00, 0xFF, 0x3C}, 3);
+    at += 3;
+    for (int i = 0; i < 2; i++, at += DALY_FRAME) {
+        frame(at, 0x95, (const uint8_t[8]){1});
+        at[12]++;
+    }
+    memcpy(at, soc, DALY_FRAME);
+    memcpy(at + 13, p1, DALY_FRAME);
+    frame(at + 26, 0x96, (const uint8_t[8]){1});
+    frame(at + 39, 0x95, (const uint8_t[8]){2});
+    frame(at + 52, 0x95, (const uint8_t[8]){3});
+    memcpy(at + 65, ask_cells, DALY_FRAME);
+    frame(at + 78, 0x95, (const uint8_t[8]){1});
+    return (size_t)(at - line) + 91;
+}
+
+static void reasons(void)
+{
+    uint8_t line[10 * DALY_FRAME];
+    size_t len = make_losses(line);
+    struct daly_reader whole, cut, other;
+    struct daly_said said = pushed_new(&whole, ask_cells, 3, true, line, len, len);
+    test(said.status == 0 && said.missing == 13 && said.took == len && whole.counts.taken == len && whole.counts.collected == 1 &&
+             lost(&whole, NOISE, SUMS, OTHERS, NUMBERS, ECHOES),
+         "struct daly_discarded: all five reasons");
+    bool good = true;
+    for (size_t size = 1; size < len; size++) {
+        pushed_new(&cut, ask_cells, 3, true, line, len, size);
+        good = good && same(&cut, &whole);
+    }
+    test(good, "struct daly_discarded: however it is cut");
+    pushed_new(&other, ask_cells, 3, false, line, len, len);
+    test(lost(&other, NOISE, SUMS, OTHERS, NUMBERS + ECHOES, 0), "struct daly_discarded: not strict, an echo has a wrong number");
+}
+
+/* A reader of 90 that stands with these counts. */
+static struct daly_reader standing(struct daly_discarded discarded, bool mark)
+{
+    return (struct daly_reader){.counts = {.command = 0x90, .mark = mark, .wanted = 1, .discarded = discarded}};
+}
+
+/* The limit of 512 is on the sum, which wraps: no count alone has to pass it, and one that does may not. */
+static void sums(void)
+{
+    const uint8_t noise[1] = {0x00};
+    const struct daly_discarded at = {102, 103, 101, 102, 104}, over = {102, 103, 101, 103, 104}, wraps = {UINT32_MAX, 1, 2, 3, 4};
+    test(daly_discarded_all(at) == 512 && daly_discarded_all(over) == 513 && daly_discarded_all(wraps) == 9, "daly_discarded_all");
+    struct daly_reader r = standing(over, false);
+    test(daly_reader_push(&r, noise, 1).status == DALY_BAD_STATE && lost(&r, 102, 103, 101, 103, 104) && r.counts.taken == 0,
+         "daly_reader_push: 513 bytes by five reasons without the mark are a bad state");
+    test(daly_reader_missing(&r).number == DALY_BAD_STATE && daly_reader_is_complete(&r).number == DALY_BAD_STATE, "and to the questions");
+    r = standing(over, true);
+    test(daly_reader_push(&r, noise, 1).status == DALY_UNEXPECTED_FRAME && lost(&r, 103, 103, 101, 103, 104), "daly_reader_push: with the mark they are not");
+    r = standing(at, false);
+    test(daly_reader_push(&r, noise, 0).status == DALY_DONE && !r.counts.mark, "daly_reader_push: 512 bytes by five reasons");
+    test(daly_reader_push(&r, noise, 1).status == DALY_UNEXPECTED_FRAME && r.counts.mark && lost(&r, 103, 103, 101, 102, 104),
+         "daly_reader_push: one more sets the mark");
+    r = standing(wraps, false);
+    test(daly_reader_push(&r, noise, 1).status == DALY_DONE && !r.counts.mark && lost(&r, 0, 1, 2, 3, 4), "daly_reader_push: each count wraps, and so does the sum");
 }
 
 /* What the writers are lent: the longest reply, and a byte more. */
@@ -482,6 +565,8 @@ int main(void)
     echo_with_a_number();
     echo_with_a_start();
     many_echoes();
+    reasons();
+    sums();
     memset(lent, 0x5A, sizeof lent);
     written_records();
     written_lists();

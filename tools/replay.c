@@ -577,7 +577,7 @@ static void print_read(uint8_t command, size_t reply_size, struct bytes stream)
     struct daly_completed completed = daly_reader_is_complete(&reader);
     if (print_refused(opened) && print_refused(completed.number))
         printf(" complete %d status %u cleared %" PRIu32 " discarded %" PRIu32 " taken %" PRIu32, completed.complete, said.status,
-               reader.counts.cleared, reader.counts.discarded, reader.counts.taken);
+               reader.counts.cleared, daly_discarded_all(reader.counts.discarded), reader.counts.taken);
 }
 
 /* As many zeros, then the wanted frame. */

@@ -184,7 +184,10 @@ static bool is_whole(const char *text, int64_t least, int64_t most, int64_t *val
 static bool is_counts_line(const char *line)
 {
     int end = 0;
-    sscanf(line, "reply %*2x taken %*u held %*u frames %*u discarded %*u cleared %*u%n", &end);
+    sscanf(line,
+           "reply %*2x taken %*u held %*u frames %*u discarded %*u cleared %*u"
+           " noise %*u sum %*u command %*u number %*u echo %*u%n",
+           &end);
     return end > 0 && line[end] == '\0';
 }
 

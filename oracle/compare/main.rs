@@ -110,13 +110,16 @@ fn run(options: &Options) -> Vec<bool> {
     let plain = parts.len();
     parts.extend(checks::ADDRESSES);
     parts.extend(reader::strict::parts());
+    let with_strict = parts.len();
+    parts.extend(reader::five::PARTS);
     if options.small {
         return on_all_cores(options.seed, &parts, Part::small);
     }
     let outcomes: Vec<Outcome> = on_all_cores(options.seed, &parts, Part::full);
     let mut passed: Vec<bool> = outcomes.iter().map(|outcome| outcome.passed).collect();
     passed.push(reader::enough(&outcomes[..plain]));
-    passed.extend(reader::strict::enough(&outcomes[plain..]));
+    passed.extend(reader::strict::enough(&outcomes[plain..with_strict]));
+    passed.extend(reader::five::enough(&outcomes[with_strict..]));
     passed.extend(on_all_cores(options.seed, &parts, Part::notices));
     if options.all_patterns {
         passed.extend(all_patterns(options.seed));

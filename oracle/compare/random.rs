@@ -19,6 +19,11 @@ impl Random {
         Self(seed)
     }
 
+    /// A generator of its own, for what a case has besides: this one goes on to draw what it always drew.
+    pub fn aside(&self) -> Self {
+        Self(self.0.rotate_left(32) ^ 0xD1B5_4A32_D192_ED03)
+    }
+
     pub fn next(&mut self) -> u64 {
         self.0 = self.0.wrapping_add(0x9E37_79B9_7F4A_7C15);
         let mut z = self.0;

@@ -6,6 +6,7 @@ mod cuts;
 mod discards;
 mod echoes;
 mod exchange;
+pub mod five;
 mod kinds;
 mod long;
 mod model;
@@ -13,6 +14,7 @@ mod numbers;
 mod opened;
 mod over;
 mod port;
+mod reasons;
 mod sides;
 mod states;
 mod streams;
@@ -21,6 +23,7 @@ mod told;
 mod wraps;
 
 use crate::trial::{verdict, Outcome, Part};
+use std::ops::RangeInclusive;
 
 const OF: &str = "FrameReader";
 
@@ -43,7 +46,7 @@ pub fn parts() -> Vec<Part> {
 }
 
 /// Streams of more than 2^32 bytes.
-pub const LONG: [Part; 3] = long::PARTS;
+pub const LONG: [Part; 4] = long::PARTS;
 
 /// Whether the parts together had streams and pushes enough.
 pub fn enough(outcomes: &[Outcome]) -> bool {
@@ -56,6 +59,29 @@ fn had(of: &str, outcomes: &[Outcome], least: u64, least_pushes: u64) -> bool {
     let enough = streams >= least && pushes >= least_pushes;
     println!(
         "{} {of}, all parts together: {streams} streams (at least {least}), {pushes} pushes (at least {least_pushes})",
+        verdict(enough)
+    );
+    enough
+}
+
+/// Whether something was met so often, for each of these numbers.
+fn saw_enough(
+    of: &str,
+    outcomes: &[Outcome],
+    what: &'static str,
+    numbers: RangeInclusive<usize>,
+    least: u64,
+) -> bool {
+    let met = |number| {
+        outcomes
+            .iter()
+            .filter_map(|outcome| outcome.seen.get(&(what, number)))
+            .sum::<u64>()
+    };
+    let fewest = numbers.map(met).min().unwrap_or(0);
+    let enough = fewest >= least;
+    println!(
+        "{} {of}, {what}: {fewest} (at least {least})",
         verdict(enough)
     );
     enough

@@ -52,6 +52,11 @@ pub const PARTS: &[Part] = &[
         minimum: 10,
         ask: numbers,
     },
+    Part {
+        name: "account: the sum of any five counts",
+        minimum: 5_000,
+        ask: reader::sums,
+    },
 ];
 
 fn told<T>(result: Result<T, Error>, values: impl FnOnce(T) -> Vec<Value>) -> Answer {

@@ -10,6 +10,7 @@ mod buffers;
 #[path = "../compare/checks.rs"]
 mod checks;
 mod counts;
+mod five;
 #[path = "../compare/frames.rs"]
 mod frames;
 mod kinds;
@@ -21,6 +22,15 @@ mod original;
 mod port;
 #[path = "../compare/random.rs"]
 mod random;
+/// The model of the documents' reader, streams, and how the Rust stands beside a strict one.
+#[path = "../compare/reader"]
+mod reader {
+    pub mod echoes;
+    pub mod exchange;
+    pub mod model;
+    pub mod streams;
+    pub mod told;
+}
 mod readers;
 mod refusals;
 mod texts;
@@ -44,6 +54,7 @@ fn run(seed: u64, small: bool) -> Vec<bool> {
         written::PARTS.to_vec(),
         kinds::parts(),
         readers::STRICT.to_vec(),
+        five::PARTS.to_vec(),
     ]
     .concat();
     let seeded = || (seed..).zip(&parts);

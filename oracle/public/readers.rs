@@ -40,13 +40,7 @@ fn new(trial: &mut Trial, strict: bool) {
             let opened = FrameReader::new(&request, size, strict);
             let c = opened.reader.counts;
             let zero = !c.mark && opened.reader.frames == [0; 1105];
-            let rest = [
-                c.taken as usize,
-                c.discarded as usize,
-                c.cleared as usize,
-                c.collected,
-                c.held,
-            ];
+            let rest = (c.tally, c.collected, c.held);
             let ours = (
                 trial.port.answered(opened.number),
                 c.command,
@@ -55,13 +49,14 @@ fn new(trial: &mut Trial, strict: bool) {
                 zero,
                 rest,
             );
+            let nothing = ([0; 7], 0, 0);
             let wanted = match (length, size) {
-                (0..=2, _) => (7, 0, 0, false, true, [0; 5]),
-                (_, 1_106..) => (6, 0, 0, false, true, [0; 5]),
+                (0..=2, _) => (7, 0, 0, false, true, nothing),
+                (_, 1_106..) => (6, 0, 0, false, true, nothing),
                 _ => {
                     let rust = Rust::new(&request, size);
                     let fields = exposed::reader_fields(&rust);
-                    (0, fields.command, fields.n_frames, strict, true, [0; 5])
+                    (0, fields.command, fields.n_frames, strict, true, nothing)
                 }
             };
             trial.check(wanted, ours, || {
@@ -149,39 +144,45 @@ fn streams(trial: &mut Trial) {
     }
 }
 
-/// Each of the six ways to be bad: 8, 0 missing, not complete, nothing copied; a good one without room: 9, nothing written.
+/// A good state.
+const GOOD: Counts = Counts {
+    command: 0x90,
+    mark: false,
+    strict: false,
+    tally: [0; 7],
+    wanted: 2,
+    collected: 1,
+    held: 0,
+};
+
+/// Each of the six ways to be bad, the last, 513 bytes discarded without the mark, by one count and by five.
+const BAD: [Counts; 7] = [
+    Counts { held: 13, ..GOOD },
+    Counts { wanted: 86, ..GOOD },
+    Counts {
+        collected: 3,
+        ..GOOD
+    },
+    Counts {
+        collected: 2,
+        held: 1,
+        ..GOOD
+    },
+    Counts { held: 1, ..GOOD },
+    Counts {
+        tally: [0, 513, 0, 0, 0, 0, 0],
+        ..GOOD
+    },
+    Counts {
+        tally: [0, 103, 103, 103, 103, 101, 0],
+        ..GOOD
+    },
+];
+
+/// 8, 0 missing, not complete, nothing copied; a good one without room: 9, nothing written.
 fn bad(trial: &mut Trial) {
-    let good = Counts {
-        command: 0x90,
-        mark: false,
-        strict: false,
-        taken: 0,
-        discarded: 0,
-        cleared: 0,
-        wanted: 2,
-        collected: 1,
-        held: 0,
-    };
-    let all = [
-        Counts { held: 13, ..good },
-        Counts { wanted: 86, ..good },
-        Counts {
-            collected: 3,
-            ..good
-        },
-        Counts {
-            collected: 2,
-            held: 1,
-            ..good
-        },
-        Counts { held: 1, ..good },
-        Counts {
-            discarded: 513,
-            ..good
-        },
-    ];
     for _ in 0..trial.rounds(1_000).max(4) {
-        for counts in all {
+        for counts in BAD {
             let reader = FrameReader {
                 counts,
                 frames: [0; 1105],
@@ -202,7 +203,7 @@ fn bad(trial: &mut Trial) {
         let (mut out, reader) = (
             [7; 12],
             FrameReader {
-                counts: good,
+                counts: GOOD,
                 frames: [0; 1105],
             },
         );

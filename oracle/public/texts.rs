@@ -129,9 +129,11 @@ fn unknown(trial: &mut Trial) {
                 trial.random.word(),
             );
             let (held, frames) = (trial.random.below(13), trial.random.below(86));
+            let [noise, sum, other, number, echo] = [(); 5].map(|()| trial.random.word());
             let (status, refusal) = if round % 2 == 0 { (0, 10) } else { (2, 2) };
             let text = format!(
-                "reply {command:02X} taken {taken} held {held} frames {frames} discarded {discarded} cleared {cleared}\n\
+                "reply {command:02X} taken {taken} held {held} frames {frames} discarded {discarded} cleared {cleared} \
+                 noise {noise} sum {sum} command {other} number {number} echo {echo}\n\
                  refused {refusal}\n"
             );
             let tally = Tally {
@@ -140,10 +142,15 @@ fn unknown(trial: &mut Trial) {
                 frames,
                 discarded,
                 cleared,
+                noise,
+                sum,
+                command: other,
+                number,
+                echo,
             };
             let count = trial.random.byte();
             let reply = trial.random.bytes(frames);
-            let length = trial.random.below(120);
+            let length = trial.random.below(240);
             compare(trial, 0, length, &text, |out| {
                 report::report(command, count, tally, &reply, status, out)
             });

@@ -13,7 +13,7 @@ const TRIED: usize = 60;
 const HANGS: &str = "hangs";
 
 /// What the stand-in does wrong, and the part that must notice.
-const FAULTS: [(&str, &str); 12] = [
+const FAULTS: [(&str, &str); 22] = [
     (
         "a short read ends",
         "document 01's example, cut in two at every place",
@@ -32,6 +32,34 @@ const FAULTS: [(&str, &str); 12] = [
     ("exit status 1", "the stored samples"),
     ("a word to standard error", "the stored samples"),
     (HANGS, "document 01's example, cut in two at every place"),
+    ("noise and sum exchanged", "drawn: noise between frames"),
+    (
+        "command and number exchanged",
+        "drawn: frames of other commands",
+    ),
+    (
+        "number and echo exchanged",
+        "drawn: echoes of our own question",
+    ),
+    (
+        "noise is sum",
+        "document 01's example, cut in two at every place",
+    ),
+    (
+        "the byte after a wrong sum is one of it",
+        "drawn: flipped, dropped and doubled bytes",
+    ),
+    ("13 for a wrong sum", "drawn: start bytes"),
+    (
+        "a wrong command is 1 byte",
+        "drawn: frames of other commands",
+    ),
+    ("noise has 16 bits", "inputs of 1 to 4 MiB"),
+    (
+        "the line ends with cleared",
+        "document 01's example, cut in two at every place",
+    ),
+    ("echo lacks", "the stored samples"),
 ];
 
 fn stand_in(fault: &'static str) -> Program {

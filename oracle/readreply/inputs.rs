@@ -15,8 +15,9 @@ pub const EXAMPLE: [u8; 17] = [
     0x90, 0x00, 0x00, 0xA5, 0xA5, 0x01, 0x90, 0x08, 0x02, 0x0B, 0x00, 0x00, 0x74, 0xB7, 0x03, 0x6A,
     0xE3,
 ];
-/// What it prints, whole.
-pub const EXAMPLE_TEXT: &str = "reply 90 taken 15 held 0 frames 1 discarded 2 cleared 0
+/// What it prints, whole, with document 02's five counts.
+pub const EXAMPLE_TEXT: &str = "\
+reply 90 taken 15 held 0 frames 1 discarded 2 cleared 0 noise 1 sum 1 command 0 number 0 echo 0
 total_voltage 523
 current -121
 soc_percent 874

@@ -1,7 +1,7 @@
 //! What `readreply` is to print, from the unchanged Rust: its reader collects, its decoders decode. A
-//! model of document 01's rules stands beside the Rust's reader. It decides about what that does not
-//! show, the bytes taken, the frames cleared and what is held once complete; about all else the two
-//! must agree.
+//! model of the documents' rules stands beside the Rust's reader. It decides about what that does not
+//! show, the bytes taken, the frames cleared, why bytes were thrown away and what is held once complete;
+//! about all else the two must agree. The reasons are found a second time, otherwise, and must be the same.
 
 mod fields;
 #[path = "../compare/frames.rs"]
@@ -18,6 +18,8 @@ use dalybms_lib::protocol::exposed;
 use dalybms_lib::protocol::FrameReader;
 use frames::FRAME;
 use reader::model::Model;
+use reader::reasons::Reasons;
+use reader::told::Discarded;
 
 const TOO_SHORT: u8 = 7;
 const UNKNOWN_COMMAND: u8 = 10;
@@ -32,6 +34,8 @@ pub struct Tally {
     pub frames: usize,
     pub discarded: u32,
     pub cleared: u32,
+    /// Why, and the last five of the line.
+    pub thrown: Discarded,
 }
 
 /// A reader for a command and a count.
@@ -40,6 +44,7 @@ pub struct Reference {
     count: u8,
     rust: FrameReader,
     model: Model,
+    reasons: Reasons,
     status: u8,
 }
 
@@ -67,6 +72,7 @@ impl Reference {
             count,
             rust: FrameReader::new(request, size),
             model: Model::new(command, size, false),
+            reasons: Reasons::new(command, size.div_ceil(FRAME), false),
             status: 0,
         }
     }
@@ -78,6 +84,7 @@ impl Reference {
             let given = if was_complete { &[] } else { chunk };
             self.status = original::number(&self.rust.push(given));
             let took = self.model.push(chunk).took;
+            self.reasons.push(chunk);
             self.agree(if was_complete { &[] } else { &chunk[took..] });
         }
     }
@@ -86,7 +93,9 @@ impl Reference {
     fn agree(&self, left: &[u8]) {
         let fields = exposed::reader_fields(&self.rust);
         let model = &self.model;
-        assert_eq!(fields.discarded as u32, model.discarded, "discarded");
+        let all = model.discarded.all();
+        assert_eq!(fields.discarded as u32, all, "discarded");
+        assert_eq!(self.reasons.thrown, model.discarded, "why");
         assert_eq!(fields.frames, model.collected, "collected");
         assert_eq!(self.status, model.status(), "status");
         assert_eq!(self.rust.missing(), model.missing(), "missing");
@@ -110,6 +119,7 @@ impl Reference {
             frames: fields.frames.len() / FRAME,
             discarded: fields.discarded as u32,
             cleared: self.model.cleared,
+            thrown: self.model.discarded,
         }
     }
 
@@ -146,6 +156,11 @@ impl Tally {
             ("frames", self.frames),
             ("discarded", self.discarded as usize),
             ("cleared", self.cleared as usize),
+            ("noise", self.thrown.noise as usize),
+            ("sum", self.thrown.sum as usize),
+            ("command", self.thrown.command as usize),
+            ("number", self.thrown.number as usize),
+            ("echo", self.thrown.echo as usize),
         ];
         let counts = counts.map(|(name, count)| format!("{name} {count}"));
         format!("reply {command:02X} {}\n", counts.join(" "))

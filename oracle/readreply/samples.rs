@@ -9,6 +9,9 @@ use std::collections::BTreeMap;
 use std::{fs, io};
 
 const PLACE: &str = "data/readreply";
+/// What the program's crate has of one run: its input, by hand, and what the Rust makes of it.
+const INPUT: &str = "crates/readreply/stdin";
+const OUTPUT: &str = "crates/readreply/stdout";
 /// So that the drawn bytes of a sample are always the same.
 const SEED: u64 = 1;
 
@@ -100,6 +103,7 @@ pub fn all() -> Samples {
     fields(put);
     lists(put);
     reader(put);
+    reasons(put);
     addresses(put);
     over_512(put);
     refused(put);
@@ -255,6 +259,36 @@ fn reader(put: Put) {
     }
 }
 
+/// What tells a bad cable from a second master (document 02, K3), and all that is thrown away without strict mode.
+fn reasons(put: Put) {
+    let (reply, third) = (run(0x95, 1, 3), numbered(0x95, 3));
+    let mut broken = reply.clone();
+    broken[FRAME + 6] ^= 0x10;
+    let others = [question(0x90), frame(0x90, DATA_OF[0])].concat();
+    let noise = vec![0x00, 0xFF, 0x3C];
+    let samples = [
+        (
+            "bad-cable",
+            vec![noise.clone(), broken.clone(), reply.clone()],
+        ),
+        (
+            "second-master",
+            vec![others.clone(), reply.clone(), others.clone()],
+        ),
+        (
+            "second-master-between",
+            vec![run(0x95, 1, 2), others.clone(), third],
+        ),
+        (
+            "every-reason",
+            vec![noise, broken, others, question(0x95), reply],
+        ),
+    ];
+    for (name, stream) in samples {
+        put(format!("95-{name}"), input(0x95, 9, &stream.concat()));
+    }
+}
+
 /// The bytes that nobody looks at.
 fn addresses(put: Put) {
     for byte in [0x00, 0x40, 0xFF] {
@@ -332,7 +366,7 @@ fn files() -> BTreeMap<String, Vec<u8>> {
     files
 }
 
-/// Makes the folder anew.
+/// Makes the folder anew, and the crate's output.
 pub fn write() -> io::Result<()> {
     if fs::exists(PLACE)? {
         fs::remove_dir_all(PLACE)?;
@@ -341,8 +375,14 @@ pub fn write() -> io::Result<()> {
     for (name, bytes) in files() {
         fs::write(format!("{PLACE}/{name}"), bytes)?;
     }
-    println!("{} samples in {PLACE}", all().len());
+    fs::write(OUTPUT, output()?)?;
+    println!("{} samples in {PLACE}, and {OUTPUT}", all().len());
     Ok(())
+}
+
+/// What is printed of the crate's input.
+fn output() -> io::Result<Vec<u8>> {
+    Ok(reference::text(&fs::read(INPUT)?).into_bytes())
 }
 
 fn stored() -> io::Result<BTreeMap<String, Vec<u8>>> {
@@ -354,11 +394,13 @@ fn stored() -> io::Result<BTreeMap<String, Vec<u8>>> {
     entries.collect()
 }
 
-/// Whether the stored files are these, no more, no fewer, no others.
+/// Whether the stored files are these, no more, no fewer, no others, and the crate's output too.
 pub fn are_stored() -> bool {
     let same = stored().is_ok_and(|stored| stored == files());
+    let same =
+        same && output().is_ok_and(|text| fs::read(OUTPUT).is_ok_and(|stored| stored == text));
     println!(
-        "{} {PLACE} has what the Rust says, {} samples",
+        "{} {PLACE} and {OUTPUT} have what the Rust says, {} samples",
         crate::part::verdict(same),
         all().len()
     );

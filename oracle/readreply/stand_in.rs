@@ -1,7 +1,7 @@
 //! The reference as a program of its own, `readreply` over the Rust. The comparison is tried on it: as it
 //! is, where it must pass, and with a fault named by the variable `FAULT`, which must be noticed.
 
-use reference::{no_reader, Reference};
+use reference::{no_reader, Reference, Tally};
 use std::io::{self, Read, Write};
 use std::process::ExitCode;
 
@@ -70,14 +70,46 @@ fn text(input: &mut Input) -> String {
             tally.discarded += 13 * tally.cleared;
             tally.cleared = 0;
         }
-        _ => {}
+        fault => misjudge(&mut tally, fault),
     }
     let text = reference.text_with(tally, status);
     match input.fault.as_str() {
         "the last newline lacks" => text.trim_end().to_string(),
         "a value twice" => text.clone() + text.lines().last().unwrap_or_default() + "\n",
+        "the line ends with cleared" => without(&text, " noise "),
+        "echo lacks" => without(&text, " echo "),
         _ => text,
     }
+}
+
+/// The faults of the five counts. The one that they stand for is right.
+fn misjudge(tally: &mut Tally, fault: &str) {
+    let thrown = &mut tally.thrown;
+    match fault {
+        "noise and sum exchanged" => std::mem::swap(&mut thrown.noise, &mut thrown.sum),
+        "command and number exchanged" => std::mem::swap(&mut thrown.command, &mut thrown.number),
+        "number and echo exchanged" => std::mem::swap(&mut thrown.number, &mut thrown.echo),
+        "noise is sum" => {
+            thrown.sum += thrown.noise;
+            thrown.noise = 0;
+        }
+        "the byte after a wrong sum is one of it" => {
+            let more = thrown.sum.min(thrown.noise);
+            thrown.sum += more;
+            thrown.noise -= more;
+        }
+        "13 for a wrong sum" => thrown.sum *= 13,
+        "a wrong command is 1 byte" => thrown.command /= 13,
+        "noise has 16 bits" => thrown.noise %= 65_536,
+        _ => {}
+    }
+}
+
+/// The text without what stands in its first line from this word on.
+fn without(text: &str, word: &str) -> String {
+    let (line, rest) = text.split_once('\n').unwrap_or((text, ""));
+    let kept = line.split(word).next().unwrap_or(line);
+    format!("{kept}\n{rest}")
 }
 
 fn main() -> ExitCode {

@@ -7,7 +7,8 @@
 //! COMMANDS is one of 90 (charge), 91 and 92 (extremes), 93 (MOSFETs), 94 (status), 95 (cells; the default),
 //! 96 (sensors), 97 (balance) and 98 (faults), or several of them with commas between (90,95,90), or `all`.
 //! Where several are asked, a line as `asked 90` stands above each reading. How many cells and sensors there
-//! are is asked of the board, by 94, unless it is given.
+//! are is asked of the board, by 94, unless it is given. What fails is told on standard error; where a reply was
+//! waited for, a second line tells how many bytes were thrown away meanwhile, and why.
 //!
 //! The line is to be in raw mode: `stty -F PATH 9600 raw -echo cs8 -parenb -cstopb -crtscts`. There a read of
 //! no bytes is a line that hung up. `examples/controller.c` is the same in C.
@@ -15,11 +16,13 @@
 #[path = "controller/line.rs"]
 mod line;
 
+use daly::account::Discarded;
 use daly::protocol::{
     Address, CellBalanceState, CellTemperatures, CellVoltageRange, CellVoltages, ErrorCode,
     FrameReader, MosfetStatus, Soc, Status, TemperatureRange,
 };
 use line::{Failure, Line, LATE, PATIENCE, STILL};
+use std::fmt::{self, Display, Formatter};
 use std::process::ExitCode;
 use std::time::Instant;
 
@@ -158,6 +161,54 @@ fn status(status: Status) -> Vec<String> {
     ]
 }
 
+/// A question without a reading: why, and, where a reply was waited for, what was thrown away meanwhile.
+struct Failed {
+    why: Failure,
+    discarded: Option<Discarded>,
+}
+
+impl From<Failure> for Failed {
+    fn from(why: Failure) -> Self {
+        Self {
+            why,
+            discarded: None,
+        }
+    }
+}
+
+/// The counts in the words of `readreply`.
+impl Display for Failed {
+    fn fmt(&self, f: &mut Formatter<'_>) -> fmt::Result {
+        self.why.fmt(f)?;
+        let Some(why) = self.discarded else {
+            return Ok(());
+        };
+        write!(
+            f,
+            "\nnoise {} sum {} command {} number {} echo {}",
+            why.noise, why.sum, why.command, why.number, why.echo
+        )
+    }
+}
+
+/// A reply's bytes, and what was thrown away while it was waited for.
+struct Reply {
+    bytes: Vec<u8>,
+    discarded: Discarded,
+}
+
+impl Reply {
+    fn decoded<T>(
+        &self,
+        decode: impl FnOnce(&[u8]) -> Result<T, daly::Error>,
+    ) -> Result<T, Failed> {
+        decode(&self.bytes).map_err(|error| Failed {
+            why: error.into(),
+            discarded: Some(self.discarded),
+        })
+    }
+}
+
 /// A board on a line, and what 94 told of it.
 struct Board {
     line: Line,
@@ -165,24 +216,39 @@ struct Board {
 }
 
 impl Board {
-    /// The bytes of one reply. The reader is strict, since an adapter may send our question back. No more is read
-    /// than the next frame lacks, so what follows stays on the line.
-    fn collect(
-        &mut self,
-        until: Instant,
-        request: &[u8],
-        reply_size: usize,
-    ) -> Result<Vec<u8>, Failure> {
-        let mut reader = FrameReader::new_strict(request, reply_size);
+    /// Until the reader has all frames. No more is read than the next one lacks, so what follows stays on the line.
+    fn fill(&mut self, until: Instant, reader: &mut FrameReader) -> Result<(), Failure> {
         let mut chunk = [0; 13];
         while !reader.is_complete() {
             let length = self.line.receive(until, &mut chunk[..reader.missing()])?;
             reader.push(&chunk[..length])?;
         }
-        Ok(reader.into_bytes())
+        Ok(())
     }
 
-    fn exchange(&mut self, question: Question) -> Result<Vec<u8>, Failure> {
+    /// One reply. The reader is strict, since an adapter may send our question back.
+    fn collect(
+        &mut self,
+        until: Instant,
+        request: &[u8],
+        reply_size: usize,
+    ) -> Result<Reply, Failed> {
+        let mut reader = FrameReader::new_strict(request, reply_size);
+        let filled = self.fill(until, &mut reader);
+        let discarded = reader.counts().discarded;
+        match filled {
+            Ok(()) => Ok(Reply {
+                bytes: reader.into_bytes(),
+                discarded,
+            }),
+            Err(why) => Err(Failed {
+                why,
+                discarded: Some(discarded),
+            }),
+        }
+    }
+
+    fn exchange(&mut self, question: Question) -> Result<Reply, Failed> {
         let request = question.request();
         self.line.send(&request)?;
         let until = Instant::now() + PATIENCE;
@@ -190,7 +256,7 @@ impl Board {
     }
 
     /// Nothing that was asked before is on the line when the question goes out, nor when it is given up.
-    fn ask(&mut self, question: Question) -> Result<Vec<u8>, Failure> {
+    fn ask(&mut self, question: Question) -> Result<Reply, Failed> {
         self.line.settle(STILL);
         let reply = self.exchange(question);
         if reply.is_err() {
@@ -201,18 +267,18 @@ impl Board {
 
     /// The count that was given, or the one that 94 tells, which is asked once. A count that is too small hides
     /// cells, and one that is too large makes up cells of 0 V.
-    fn count(&mut self, given: Option<u8>, told: fn(&Status) -> u8) -> Result<u8, Failure> {
+    fn count(&mut self, given: Option<u8>, told: fn(&Status) -> u8) -> Result<u8, Failed> {
         if let Some(count) = given {
             return Ok(count);
         }
         let status = match self.status.take() {
             Some(status) => status,
-            None => Status::decode(&self.ask(Question::Status)?)?,
+            None => self.ask(Question::Status)?.decoded(Status::decode)?,
         };
         Ok(told(self.status.insert(status)))
     }
 
-    fn question(&mut self, command: &str, count: Option<u8>) -> Result<Question, Failure> {
+    fn question(&mut self, command: &str, count: Option<u8>) -> Result<Question, Failed> {
         Ok(match command {
             "90" => Question::Charge,
             "91" => Question::CellRange,
@@ -226,10 +292,10 @@ impl Board {
         })
     }
 
-    fn answer(&mut self, command: &str, count: Option<u8>) -> Result<Vec<String>, Failure> {
+    fn answer(&mut self, command: &str, count: Option<u8>) -> Result<Vec<String>, Failed> {
         let question = self.question(command, count)?;
         let reply = self.ask(question)?;
-        Ok(question.lines(&reply)?)
+        reply.decoded(|bytes| question.lines(bytes))
     }
 }
 
@@ -259,10 +325,10 @@ fn answer_all(mut board: Board, commands: &[&str], count: Option<u8>) -> bool {
         }
         match board.answer(command, count) {
             Ok(lines) => lines.iter().for_each(|line| println!("{line}")),
-            Err(failure) => {
-                eprintln!("{failure}");
+            Err(failed) => {
+                eprintln!("{failed}");
                 good = false;
-                if let Failure::HungUp = failure {
+                if let Failure::HungUp = failed.why {
                     break;
                 }
             }

@@ -1,5 +1,5 @@
-//! What the library tells beyond `dalybms_lib`: what became of every byte of the line, the board's own whole
-//! numbers, whether the cells add up to their pack, and the frames themselves.
+//! What the library tells beyond `dalybms_lib`: what became of every byte of the line and why bytes were thrown
+//! away, the board's own whole numbers, whether the cells add up to their pack, and the frames themselves.
 //!
 //! A reading that money depends on is kept with its account:
 //!
@@ -31,6 +31,7 @@
 
 mod counts;
 
+pub use crate::ffi::Discarded;
 use crate::{ffi, Error};
 pub use counts::{cell_millivolts, CellVoltageRangeCounts, MosfetStatusCounts, SocCounts};
 
@@ -48,7 +49,8 @@ pub struct Account {
     pub collected: usize,
     /// Frames that the reply is to have.
     pub wanted: usize,
-    /// Bytes in no frame of the reply, modulo 2^32.
+    /// Bytes in no frame of the reply, modulo 2^32. [`FrameReader::counts`](crate::protocol::FrameReader::counts)
+    /// tells why.
     pub discarded: u32,
     /// Frames dropped because the board began its reply again, modulo 2^32.
     pub cleared: u32,
@@ -63,10 +65,48 @@ impl Account {
             held: counts.held,
             collected: counts.collected,
             wanted: counts.wanted,
-            discarded: counts.discarded,
+            discarded: counts.discarded.all(),
             cleared: counts.cleared,
             mark: counts.mark != 0,
         }
+    }
+}
+
+/// What a [`FrameReader`](crate::protocol::FrameReader) has counted, and why it discarded what it did.
+///
+/// Of a reader that was refused when it was made, all is zero.
+#[derive(Clone, Copy, Debug, PartialEq, Eq)]
+pub struct Counts {
+    /// Bytes taken, modulo 2^32.
+    pub taken: u32,
+    /// Bytes in no frame of the reply, by the reason.
+    pub discarded: Discarded,
+    /// Frames dropped because the board began its reply again, modulo 2^32.
+    pub cleared: u32,
+}
+
+impl Counts {
+    pub(crate) fn of(counts: &ffi::Counts) -> Self {
+        Self {
+            taken: counts.taken,
+            discarded: counts.discarded,
+            cleared: counts.cleared,
+        }
+    }
+}
+
+impl Discarded {
+    /// All bytes discarded: the sum of the five, modulo 2^32. More than 512 are too many.
+    ///
+    /// ```
+    /// use daly::account::Discarded;
+    ///
+    /// let discarded = Discarded { noise: 300, sum: 4, command: 26, number: 13, echo: 39 };
+    /// assert_eq!(discarded.all(), 382);
+    /// assert_eq!(Discarded { noise: u32::MAX, ..discarded }.all(), 81);
+    /// ```
+    pub fn all(self) -> u32 {
+        ffi::account::discarded_all(self)
     }
 }
 

@@ -10,7 +10,7 @@ mod wire;
 
 use crate::Error;
 use told::{CellVoltageRange, FrameKind, List, MosfetStatus, Soc, Status, TemperatureRange};
-pub use told::{Counts, Reader};
+pub use told::{Counts, Discarded, Reader};
 
 /// Bytes of a frame.
 pub const FRAME: usize = 13;

@@ -16,9 +16,10 @@
 //! assert_eq!(charge(&line), Ok(87.4));
 //! ```
 //!
-//! The module [`account`] has what `dalybms_lib` has not: what became of every byte of the line, the board's
-//! own whole numbers, and whether the cells add up to their pack. With the feature `board` there is the module
-//! `board`, which writes replies as a board sends them, for a bench; only then `libwriters.a` is linked, too.
+//! The module [`account`] has what `dalybms_lib` has not: what became of every byte of the line and why bytes were
+//! thrown away, the board's own whole numbers, and whether the cells add up to their pack. With the feature `board`
+//! there is the module `board`, which writes replies as a board sends them, for a bench; only then `libwriters.a` is
+//! linked, too.
 //!
 //! All of it is done by calls into `libdaly.a` and `libwriters.a`, of which every function is proved. Nothing is
 //! worked out here: answers are turned into the types above, and memory is lent. Build the archives by
@@ -42,6 +43,8 @@
 //! - [`protocol::FrameReader::new_strict`], which `dalybms_lib` has not, makes a reader for two-wire lines: it throws
 //!   away what the adapter returns of our own questions. A reader by `new` takes such an echo for a reply of one frame,
 //!   as in `dalybms_lib`.
+//! - [`protocol::FrameReader::counts`], which `dalybms_lib` has not, tells a bad cable from a second master: the bytes
+//!   thrown away, counted by five reasons. `dalybms_lib` keeps their sum alone, for its log.
 //! - Left out: serde, log lines, and the clients.
 //!
 //! The library builds requests from the host's address, 40 hexadecimal, and

@@ -3,6 +3,7 @@ ghost use Prim.Native.Nat.{_≤_, _<_};
 ghost use Rattle.reader.specs.View.{Answered};
 use reader::Counts;
 use reader::Said;
+use reader::Standing;
 use reader::Told;
 
 // How long the next chunk is, of the bytes left: `size`, but at least one and at most all of them.
@@ -31,14 +32,22 @@ pub extern "C" fn daly_push_in_chunks(
     let mut at: usize = 0;
     let mut status: u8 = 0;
     let mut took: usize = 0;
-    let mut c = counts;
+    let mut tally = counts.tally;
+    let mut c = Standing {
+        command: counts.command,
+        mark: counts.mark,
+        strict: counts.strict,
+        wanted: counts.wanted,
+        collected: counts.collected,
+        held: counts.held,
+    };
     let mut more = true;
     while more {
         let n = chunk_size(size, stream.len() - at);
-        let t = reader::push_into(frames, c, &stream[at..at + n]);
+        let t = reader::push_into(frames, &mut tally, c, &stream[at..at + n]);
         status = t.said.status;
         took += t.said.took;
-        c = t.counts;
+        c = t.standing;
         at += n;
         more = at < stream.len();
     }
@@ -47,6 +56,14 @@ pub extern "C" fn daly_push_in_chunks(
             status: status,
             took: took,
         },
-        counts: c,
+        counts: Counts {
+            command: c.command,
+            mark: c.mark,
+            strict: c.strict,
+            tally: tally,
+            wanted: c.wanted,
+            collected: c.collected,
+            held: c.held,
+        },
     }
 }

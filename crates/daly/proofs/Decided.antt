@@ -47,6 +47,7 @@ use Rattle.daly.proofs.lists.daly_cell_temperatures.Reads as daly-cell-
 use Rattle.daly.proofs.lists.daly_cell_balance_state.Reads as daly-cell-balance-state
 use Rattle.daly.proofs.lists.daly_error_codes.Reads as daly-error-codes
 use Rattle.daly.proofs.packs.daly_pack_check.Reads as daly-pack-check
+use Rattle.daly.proofs.readers.daly_discarded_all.Reads as daly-discarded-all
 use Rattle.daly.proofs.readers.daly_reader_new as new
 use Rattle.daly.proofs.readers.daly_reader_push as push
 use Rattle.daly.proofs.readers.daly_reader_missing as ask-missing
@@ -55,6 +56,9 @@ use Rattle.daly.proofs.readers.daly_reader_copy_out as copy-out
 
 daly-calc-crc-decides : Decides daly-calc-crc.Post (λ κs r s. r)
 daly-calc-crc-decides κs a x y s t = same
+
+daly-discarded-all-decides : Decides daly-discarded-all.Post (λ κs r s. r)
+daly-discarded-all-decides κs a x y s t = same
 
 daly-frame-check-decides : Decides daly-frame-check.Post (λ κs r s. r)
 daly-frame-check-decides κs a x y s t = same

@@ -32,7 +32,7 @@ use Rattle.list.specs.Listed.{gate, listTold}
 use Rattle.list.specs.Numbered.{judge, judged}
 use Rattle.flags.specs.Faults.{faults}
 use Rattle.rules.specs.Reader.{joined, bad, complete}
-use Rattle.rules.proofs.Examples.{answered, c90, frame90}
+use Rattle.rules.proofs.Examples.{nothing, answered, c90, frame90}
 
 -- 52.3, −12.1, 87.4 and 0.0 by their bits
 abbrev volts : Float
@@ -161,7 +161,7 @@ faults-listed : (r : ListTold) (exit : List ℕ) → TellsFaults (frame 1 0x98 (
 unfolding total sum summed frame sumOf lenCheck headerCheck checksumCheck frameCheck gate judge judged faults
 faults-listed r exit q = (q .answer, q .left)
 
-copied-out : (r : ListTold) (exit : List ℕ) → TellsCollected (answered c90 0 0 (frame90 ∷ []) [] 13 0 0 false .reader) (replicate 14 99) r exit
+copied-out : (r : ListTold) (exit : List ℕ) → TellsCollected (answered c90 0 0 (frame90 ∷ []) [] 13 nothing 0 false .reader) (replicate 14 99) r exit
     → (r ≡ record { number = 0; count = 13 }) × (exit ≡ frame90 ++ (99 ∷ []))
 unfolding joined bad complete
 copied-out r exit q = (q .answer, q .left)

@@ -2,6 +2,7 @@
 use mathlib.Core.Path.{_≡_, refl}
 use mathlib.Core.List.{[], _∷_}
 use Rattle.wire.proofs.Places.{layout}
+use Rattle.reader.proofs.tally.Discarded.Laws as Discarded
 use Rattle.reader.proofs.Counts.Laws as Counts
 use Rattle.reader.proofs.FrameReader.Laws as FrameReader
 use Rattle.reader.proofs.Turn.Laws as Turn
@@ -22,10 +23,13 @@ use Rattle.daly.proofs.readings.StatusTold.Laws as StatusTold
 frame-kind : layout FrameKindTold.mir ≡ 2 ∷ 0 ∷ 1 ∷ []
 frame-kind = refl
 
-counts : layout Counts.mir ≡ 40 ∷ 0 ∷ 1 ∷ 2 ∷ 4 ∷ 8 ∷ 12 ∷ 16 ∷ 24 ∷ 32 ∷ []
+discarded : layout Discarded.mir ≡ 20 ∷ 0 ∷ 4 ∷ 8 ∷ 12 ∷ 16 ∷ []
+discarded = refl
+
+counts : layout Counts.mir ≡ 56 ∷ 0 ∷ 1 ∷ 2 ∷ 4 ∷ 32 ∷ 40 ∷ 48 ∷ []
 counts = refl
 
-reader : layout FrameReader.mir ≡ 1152 ∷ 0 ∷ 40 ∷ []
+reader : layout FrameReader.mir ≡ 1168 ∷ 0 ∷ 56 ∷ []
 reader = refl
 
 said : layout Turn.mir ≡ 16 ∷ 0 ∷ 1 ∷ 8 ∷ []

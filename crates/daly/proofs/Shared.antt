@@ -35,7 +35,7 @@ abbrev pub Arr : RattleType
 Arr = Array u8 1105
 
 abbrev pub off : ℕ
-off = 40
+off = 56
 
 -- the machine values of the numbers, and of a reader
 abbrev pub lowN : Counts → Val
@@ -62,7 +62,7 @@ module _ {M : Type 1} (𝓤 : URA M) (H : Heap 𝓤) (A : Atoms 𝓤) (W : Given
   to-frames κ q h b o =
       qed W (‵ (fshr-bor κ (λ s. partAt R s h b o)) ∷ ‵ (flft κ q) ∷ []) {P = H .⇛ (ex 𝓤 (λ (δ : GName). sep 𝓤 (sem 𝓤 H A (ShrRef (named 0) κ Arr .own (fs b o h δ) (vptr b (o + off) ∷ []))) (A .lft κ q)))} (
       updating ! $
-      use2 W (later (‵ (fshr-bor κ (λ s. partAt Arr s (map (λ (x : ℕ). x) (h .frames)) b (o + off))) ⊛ ‵ (flft κ q))) (part-field 𝓤 H A W T.the-type T′.the-laws T′.the-copy 1 40 refl refl (T.struct .as-values) (λ x. refl) κ q h b o) $ await ! tt $ split ! $
+      use2 W (later (‵ (fshr-bor κ (λ s. partAt Arr s (map (λ (x : ℕ). x) (h .frames)) b (o + off))) ⊛ ‵ (flft κ q))) (part-field 𝓤 H A W T.the-type T′.the-laws T′.the-copy 1 56 refl refl (T.struct .as-values) (λ x. refl) κ q h b o) $ await ! tt $ split ! $
       rewrite ! 0 (λ (l : List ℕ). ‵ (fshr-bor κ (λ s. partAt Arr s l b (o + off)))) (map-id (h .frames)) refl $
       name-new ! tt (Arr .coded .code (h .frames)) (λ δ. use1 W (‵ (fres δ (Arr .coded .code (h .frames)))) (W .names .obs-res δ (Arr .coded .code (h .frames))) $ move ! (1 ∷ []) $ drop ! $
       feqI ! (List Val) (vptr b (o + off) ∷ []) (vptr b (o + off) ∷ []) refl $ fjoin3 ! $ now ! $

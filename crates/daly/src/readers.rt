@@ -1,6 +1,7 @@
 // The reader, for C, where the caller has it: a `&FrameReader` and a `&mut FrameReader` are pointers, and no call copies the frames but the one that copies them out.
 ghost use mathlib.Core.Path.{_≡_};
-ghost use Rattle.reader.specs.View.{view};
+ghost use Rattle.rules.specs.Reader.{allOf};
+ghost use Rattle.reader.specs.View.{view, reasons};
 ghost use Rattle.reader.specs.Lent.{TurnedLent, OpenedLent, seen};
 ghost use Rattle.reader.specs.Told.{missingTold, completeTold};
 ghost use Rattle.daly.specs.Lists.{TellsCollected};
@@ -9,11 +10,13 @@ use reader::Completed;
 use reader::Counts;
 use reader::FrameReader;
 use reader::Missing;
+use reader::Standing;
 use reader::Turn;
 use reader::completed_of;
 use reader::copy_from;
 use reader::missing_of;
 use reader::open_counts;
+use reader::tally::Discarded;
 use reader::turn_into;
 
 // A new reader, into the caller's: its numbers, and an array of zeros. It answers 0, 7 or 6.
@@ -32,19 +35,32 @@ pub extern "C" fn daly_reader_new(
     o.number
 }
 
-// A push on a reader that the caller lends, in place: its frames are lent on, and no byte of them is copied that is not collected or held. It tells what is then missing, so that a turn of a loop has one call. The numbers that no push changes are not stored again.
+// A push on a reader that the caller lends, in place: its frames and its tally are lent on; no byte of the frames is copied that is not collected or held, and no count at all. It tells what is then missing, so that a turn of a loop has one call. The numbers that no push changes are not stored again.
 #[no_mangle]
 pub extern "C" fn daly_reader_push(reader: &mut FrameReader, chunk: &[u8]) -> Turn
     ensures { λ r. ⌜ TurnedLent (now (reader .entry)) (now (chunk .entry)) r (now (reader .exit)) ⌝ }
 {
-    let t = turn_into(&mut reader.frames, reader.counts, chunk);
-    reader.counts.mark = t.counts.mark;
-    reader.counts.taken = t.counts.taken;
-    reader.counts.discarded = t.counts.discarded;
-    reader.counts.cleared = t.counts.cleared;
-    reader.counts.collected = t.counts.collected;
-    reader.counts.held = t.counts.held;
+    let c = Standing {
+        command: reader.counts.command,
+        mark: reader.counts.mark,
+        strict: reader.counts.strict,
+        wanted: reader.counts.wanted,
+        collected: reader.counts.collected,
+        held: reader.counts.held,
+    };
+    let t = turn_into(&mut reader.frames, &mut reader.counts.tally, c, chunk);
+    reader.counts.mark = t.standing.mark;
+    reader.counts.collected = t.standing.collected;
+    reader.counts.held = t.standing.held;
     t.turn
+}
+
+// All bytes discarded, for whatever reason: the one count of document 01.
+#[no_mangle]
+pub extern "C" fn daly_discarded_all(discarded: Discarded) -> u32
+    ensures { λ r. ⌜ r ≡ allOf (reasons discarded) ⌝ }
+{
+    discarded.all()
 }
 
 #[no_mangle]

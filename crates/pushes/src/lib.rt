@@ -20,7 +20,7 @@ pub extern "C" fn daly_push_by_value(reader: FrameReader, chunk: &[u8]) -> Pushe
 pub extern "C" fn daly_push_into(frames: &mut [u8; 1105], counts: Counts, chunk: &[u8]) -> Told
     ensures { λ r. ⌜ Answered (now (frames .entry)) counts (now (chunk .entry)) (r .said .status) (r .said .took) (r .counts) (now (frames .exit)) ⌝ }
 {
-    reader::push_into(frames, counts, chunk)
+    reader::push_counts(frames, counts, chunk)
 }
 
 // "push also exists as the Rust has it, on a reader lent by the caller": the push by value, and the reader that it answers is stored.

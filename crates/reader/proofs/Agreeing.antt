@@ -9,7 +9,6 @@ use Rattle.reader.specs.declared.FrameReader.{FrameReader}
 use Rattle.reader.specs.declared.Said.{Said}
 use Rattle.reader.specs.declared.Turn.{Turn}
 use Rattle.reader.specs.declared.Told.{Told}
-use Rattle.reader.specs.declared.Turned.{Turned}
 use Rattle.reader.proofs.Promise.{shown, told-once, answered-refused}
 use Rattle.reader.proofs.Turning.{turned-into-once}
 
@@ -44,9 +43,6 @@ answered-once before chunk x y a b p q =
     λ i. both (e i .0 .said) (e i .1)
 
 -- and so is the one that tells what is then missing
-abbrev turnedOf : Turn → FrameReader → Turned
-turnedOf x a = record { turn = x; counts = a .counts }
-
 abbrev pub TurnDecides : Type 0
 TurnDecides =
     (before : FrameReader) (chunk : List ℕ) (x y : Turn) (a b : FrameReader)
@@ -55,5 +51,5 @@ TurnDecides =
 
 pub turned-once : TurnDecides
 turned-once before chunk x y a b p q =
-    let e = turned-into-once {f = before .frames} {c = before .counts} {s = chunk} {x = turnedOf x a} {y = turnedOf y b} {g = a .frames} {h = b .frames} p q in
-    λ i. both (e i .0 .turn) (e i .1)
+    let e = turned-into-once {f = before .frames} {c = before .counts} {s = chunk} {x = x} {y = y} {m = a .counts} {n = b .counts} {g = a .frames} {h = b .frames} p q in
+    λ i. both (e i .0) (e i .1 .1)

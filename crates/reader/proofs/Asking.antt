@@ -1,5 +1,5 @@
 -- What a new reader, `missing`, completeness and copying out answer, from what the code tests. Assumes nothing.
-use mathlib.Core.Path.{_≡_}
+use mathlib.Core.Path.{_≡_, ap, _∙_}
 use mathlib.Core.Bool.{false}
 use mathlib.Core.List.{List, _++_}
 use Prim.Native.Nat.{ℕ, _*_, _-_, _≤_, _<_}
@@ -11,14 +11,19 @@ use borrow.Author.Tests.{lt-ltb, le-ltb}
 use Rattle.frame.specs.declared.Refusal.the-variants.{BadState, NoRoom}
 use Rattle.frame.specs.declared.Check.the-variants.{Sound, Refused}
 use Rattle.rules.specs.Reader.{complete, bad, missing, completeness, stateNumber, joined, copyCheck}
-use Rattle.reader.specs.View.{config, view}
+use Rattle.reader.specs.View.{config, view, counted, standingOf}
 use Rattle.reader.specs.Told.{missingTold, completeTold}
 use Rattle.reader.specs.declared.Counts.{Counts}
+use Rattle.reader.specs.declared.Standing.{Standing}
 use Rattle.reader.specs.declared.Missing.{Missing}
 use Rattle.reader.specs.declared.Completed.{Completed}
 use Rattle.reader.proofs.Parts.{length-chop, length-front, joined-chop}
 use Rattle.reader.proofs.Turns.{is-open, is-complete}
 use Rattle.reader.proofs.Refusing.{sane, is-refused, not-refused}
+
+-- the number of a state whose tally is lent beside the others is that of the whole
+pub of-whole : (c : Counts) (f : List ℕ) (n : ℕ) (s : Standing) → s ≡ standingOf c → n ≡ stateNumber (view (counted s (c .tally)) f) → n ≡ stateNumber (view c f)
+of-whole c f n s e q = q ∙ ap (λ (x : Standing). stateNumber (view (counted x (c .tally)) f)) e
 
 -- n is the state's number, as the code has it
 module _ (c : Counts) (f : List ℕ) (n : ℕ) (e : n ≡ stateNumber (view c f)) where

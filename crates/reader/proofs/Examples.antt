@@ -6,9 +6,9 @@ use mathlib.Core.List.{List, [], _∷_, _++_}
 use lib.ListN.{length, replicate}
 use Rattle.frame.specs.Frame.{total, sum}
 use Rattle.rules.specs.Rules.{sumRight, restarts, judge, look, stay, after, drops}
-use Rattle.rules.specs.Ledger.{turns, run, total as counted}
+use Rattle.rules.specs.Ledger.{turns, run, total as total-of, lostFor}
 use Rattle.rules.specs.Reader.{Answer, bad, complete, heldOf, untaken, did, booked, push, status, answer, missing, completeness, stateNumber}
-use Rattle.rules.proofs.Examples.{answered, c90, frame90}
+use Rattle.rules.proofs.Examples.{five, nothing, answered, c90, frame90}
 use Rattle.reader.specs.declared.Counts.{Counts}
 use Rattle.reader.specs.View.{chop, front, view, Answered}
 use Rattle.reader.specs.Lent.{seen}
@@ -41,7 +41,7 @@ new-numbers = (refl, refl, refl, refl)
 
 -- one that has discarded 513 bytes and not its mark
 abbrev harmed : Counts
-harmed = record { command = 0x90; mark = false; strict = false; taken = 513; discarded = 513; cleared = 0; wanted = 1; collected = 0; held = 0 }
+harmed = record { command = 0x90; mark = false; strict = false; tally = 513 ∷ 513 ∷ 0 ∷ 0 ∷ 0 ∷ 0 ∷ 0 ∷ []; wanted = 1; collected = 0; held = 0 }
 
 -- "`missing` then answers 0 and completeness no, both with 8"
 told : (missingTold (view harmed []) ≡ record { number = 8; missing = 0 }) × (completeTold (view harmed []) ≡ record { number = 8; complete = false })
@@ -49,12 +49,12 @@ unfolding view chop front bad complete missing completeness
 told = (refl, refl)
 
 -- a reader into which nothing was pushed
-fresh-numbers : freshCounts 0x95 3 true ≡ record { command = 0x95; mark = false; strict = true; taken = 0; discarded = 0; cleared = 0; wanted = 3; collected = 0; held = 0 }
+fresh-numbers : freshCounts 0x95 3 true ≡ record { command = 0x95; mark = false; strict = true; tally = 0 ∷ 0 ∷ 0 ∷ 0 ∷ 0 ∷ 0 ∷ 0 ∷ []; wanted = 3; collected = 0; held = 0 }
 fresh-numbers = refl
 
 -- the struct as the rules see it: each number in its place, two frames collected, three bytes held behind them, and one place more in the array
 abbrev halfway : Counts
-halfway = record { command = 0x95; mark = true; strict = true; taken = 42; discarded = 1; cleared = 5; wanted = 3; collected = 2; held = 3 }
+halfway = record { command = 0x95; mark = true; strict = true; tally = 42 ∷ 1 ∷ 2 ∷ 3 ∷ 4 ∷ 6 ∷ 5 ∷ []; wanted = 3; collected = 2; held = 3 }
 
 viewed : view halfway (replicate 13 1 ++ replicate 13 2 ++ (0xA5 ∷ 4 ∷ 5 ∷ 6 ∷ []))
     ≡ record {
@@ -62,7 +62,7 @@ viewed : view halfway (replicate 13 1 ++ replicate 13 2 ++ (0xA5 ∷ 4 ∷ 5 ∷
       collected = replicate 13 1 ∷ replicate 13 2 ∷ [];
       held = 0xA5 ∷ 4 ∷ 5 ∷ [];
       taken = 42;
-      discarded = 1;
+      discarded = five 1 2 3 4 6;
       cleared = 5;
       mark = true;
     }
@@ -80,12 +80,12 @@ short = refl
 
 -- what the contract of a push says, read off: document 01's frame into a new reader, whatever its array holds
 pushed : (f : List ℕ) (st tk : ℕ) (c′ : Counts) (f′ : List ℕ) → Answered f (freshCounts 0x90 1 false) frame90 st tk c′ f′
-    → (st ≡ 0) × (tk ≡ 13) × (view c′ f′ ≡ answered c90 0 13 (frame90 ∷ []) [] 13 0 0 false .reader)
-unfolding view chop front answer bad status push did run turns look judge restarts sumRight sum total after drops stay booked counted complete heldOf untaken
+    → (st ≡ 0) × (tk ≡ 13) × (view c′ f′ ≡ answered c90 0 13 (frame90 ∷ []) [] 13 nothing 0 false .reader)
+unfolding view chop front answer bad status push did run turns look judge restarts sumRight sum total after drops stay booked total-of lostFor complete heldOf untaken
 pushed f st tk c′ f′ a = (ap (λ (x : Answer). x .status) (a .by-rule), ap (λ (x : Answer). x .took) (a .by-rule), ap (λ (x : Answer). x .reader) (a .by-rule))
 
 -- "BadState returns the reader as given, with 0 taken": its numbers and its whole array
 refused : (f : List ℕ) (st tk : ℕ) (c′ : Counts) (f′ : List ℕ) → Answered f harmed frame90 st tk c′ f′ → (st ≡ 8) × (tk ≡ 0) × (c′ ≡ harmed) × (f′ ≡ f)
-unfolding view chop front answer bad status push did run turns look judge restarts sumRight sum total after drops stay booked counted complete heldOf untaken
+unfolding view chop front answer bad status push did run turns look judge restarts sumRight sum total after drops stay booked total-of lostFor complete heldOf untaken
 refused f st tk c′ f′ a =
     (ap (λ (x : Answer). x .status) (a .by-rule), ap (λ (x : Answer). x .took) (a .by-rule), a .as-given refl .0, a .as-given refl .1)

@@ -11,8 +11,8 @@ use borrow.Author.Tests.{lt-ltb, le-ltb, eq-eqb, ne-eqb}
 use Rattle.wire.specs.Bytes.{byteAt}
 use Rattle.frame.specs.Frame.{sum}
 use Rattle.frame.specs.Checks.{sumOf}
-use Rattle.rules.specs.Rules.{Config, Why, span, Fate, discarded, collected, lost, sumRight, judge, restarts, stay, drops, if_then_else_}
-use Rattle.reader.specs.View.{config, chop}
+use Rattle.rules.specs.Rules.{Config, Why, span, Fate, discarded, collected, sumRight, judge, restarts, stay, drops, if_then_else_}
+use Rattle.reader.specs.View.{config, chop, seat, seatOf}
 use Rattle.reader.proofs.Parts.{length-chop}
 
 module _ (c : Config) (have : ℕ) (w : List ℕ) (whole : length w ≡ 13) where
@@ -20,63 +20,68 @@ module _ (c : Config) (have : ℕ) (w : List ℕ) (whole : length w ≡ 13) wher
   unfolding sumOf
   summed = rw whole
 
-  pub due-sum : (byteAt w 12 ≡ sumOf w → ⊥) → 1 ≡ lost (judge c have w)
-  unfolding judge sumRight
-  due-sum n = rw (ne-eqb (byteAt w 12) (sum (take 12 w)) (λ z. n (z ∙ sym summed)))
+  pub sums : eqb (byteAt w 12) (sumOf w) ≡ sumRight w
+  unfolding sumRight
+  sums = rw summed
 
-  module _ (e : byteAt w 12 ≡ sumOf w) where
-    right : eqb (byteAt w 12) (sum (take 12 w)) ≡ true
-    right = eq-eqb _ _ (e ∙ summed)
+  pub due-sum : sumRight w ≡ false → judge c have w ≡ discarded Why.wrongSum
+  unfolding judge
+  due-sum e = rw e
 
-    pub due-command : (byteAt w 2 ≡ c .command → ⊥) → 13 ≡ lost (judge c have w)
-    unfolding judge sumRight
+  module _ (right : sumRight w ≡ true) where
+    pub due-command : (byteAt w 2 ≡ c .command → ⊥) → 3 ≡ seatOf (judge c have w)
+    unfolding judge
     due-command n = rw (right, ne-eqb (byteAt w 2) (c .command) n)
 
     module _ (k : byteAt w 2 ≡ c .command) where
       ours : eqb (byteAt w 2) (c .command) ≡ true
       ours = eq-eqb _ _ k
 
-      pub due-echo : c .strict && eqb (byteAt w 1) 0x40 ≡ true → 13 ≡ lost (judge c have w)
-      unfolding judge sumRight
+      pub due-echo : c .strict && eqb (byteAt w 1) 0x40 ≡ true → 5 ≡ seatOf (judge c have w)
+      unfolding judge
       due-echo u = rw (right, ours, u)
 
       module _ (u : c .strict && eqb (byteAt w 1) 0x40 ≡ false) where
-        pub due-one : c .wanted ≤ 1 → 0 ≡ lost (judge c have w)
-        unfolding judge sumRight
+        pub due-one : c .wanted ≤ 1 → 0 ≡ seatOf (judge c have w)
+        unfolding judge
         due-one n = rw (right, ours, u, le-ltb 1 (c .wanted) n)
 
         module _ (n : 1 < c .wanted) where
-          pub due-first : byteAt w 4 ≡ 1 → 0 ≡ lost (judge c have w)
-          unfolding judge sumRight restarts
+          pub due-first : byteAt w 4 ≡ 1 → 0 ≡ seatOf (judge c have w)
+          unfolding judge restarts
           due-first m = rw (right, ours, u, lt-ltb 1 (c .wanted) n, m)
 
           module _ (m : byteAt w 4 ≡ 1 → ⊥) where
             other : eqb (byteAt w 4) 1 ≡ false
             other = ne-eqb _ _ m
 
-            pub due-number : (byteAt w 4 ≡ have + 1 → ⊥) → 13 ≡ lost (judge c have w)
-            unfolding judge sumRight restarts
+            pub due-number : (byteAt w 4 ≡ have + 1 → ⊥) → 4 ≡ seatOf (judge c have w)
+            unfolding judge restarts
             due-number o = rw (right, ours, u, lt-ltb 1 (c .wanted) n, other, ne-eqb (byteAt w 4) (suc have) (λ z. o (z ∙ sym (add-one have))))
 
-            pub due-place : byteAt w 4 ≡ have + 1 → 0 ≡ lost (judge c have w)
-            unfolding judge sumRight restarts
+            pub due-place : byteAt w 4 ≡ have + 1 → 0 ≡ seatOf (judge c have w)
+            unfolding judge restarts
             due-place o = rw (right, ours, u, lt-ltb 1 (c .wanted) n, other, eq-eqb (byteAt w 4) (suc have) (o ∙ add-one have))
 
--- what a verdict's number of discarded bytes says of it
-pub is-collected : (a : Fate) → 0 ≡ lost a → a ≡ collected
+-- what a verdict's place in the tally says of it
+pub is-collected : (a : Fate) → 0 ≡ seatOf a → a ≡ collected
 is-collected collected e = refl
 is-collected (discarded y) e = none-such y e
   where
-    none-such : (y : Why) → 0 ≡ span y → discarded y ≡ collected
+    none-such : (y : Why) → 0 ≡ seat y → discarded y ≡ collected
     none-such Why.noise e = absurd (omega arith)
     none-such Why.wrongSum e = absurd (omega arith)
     none-such Why.wrongCommand e = absurd (omega arith)
     none-such Why.wrongNumber e = absurd (omega arith)
     none-such Why.echo e = absurd (omega arith)
 
-pub is-discarded : (a : Fate) → (0 ≡ lost a → ⊥) → (y : Why) × (a ≡ discarded y)
-is-discarded collected e = absurd (e refl)
-is-discarded (discarded y) e = (y, refl)
+pub is-discarded : (a : Fate) (r : ℕ) → r ≡ seatOf a → (r ≡ 0 → ⊥) → (0 < r → 2 < r) → (y : Why) × (a ≡ discarded y) × (span y ≡ 13) × (r ≡ seat y)
+is-discarded collected r e n m = absurd (n e)
+is-discarded (discarded Why.noise) r e n m = absurd (omega (arith, m (omega arith)))
+is-discarded (discarded Why.wrongSum) r e n m = absurd (omega (arith, m (omega arith)))
+is-discarded (discarded Why.wrongCommand) r e n m = (Why.wrongCommand, refl, refl, e)
+is-discarded (discarded Why.wrongNumber) r e n m = (Why.wrongNumber, refl, refl, e)
+is-discarded (discarded Why.echo) r e n m = (Why.echo, refl, refl, e)
 
 -- how many frames stay
 module _ (n : ℕ) (w : List ℕ) (have : ℕ) where

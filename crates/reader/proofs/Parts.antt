@@ -70,6 +70,9 @@ cut s at = take (at + 13 - at) (drop at s)
 pub cut-is : (s : List ℕ) (at : ℕ) → cut s at ≡ window s at
 cut-is s at = let e : at + 13 - at ≡ 13 = omega arith in rw e
 
+pub length-cut : (s : List ℕ) (at : ℕ) → at + 13 ≤ length s → length (cut s at) ≡ 13
+length-cut s at b = ap length (cut-is s at) ∙ length-take-le 13 (drop at s) (omega (arith, length-drop at s))
+
 pub first-of : (s : List ℕ) (at : ℕ) → getD (drop at s) 0 0 ≡ getD s at 0
 first-of s at = getD-drop at s 0 0 ∙ rw add-zero
 

@@ -2,11 +2,11 @@
 use mathlib.Core.Path.{_≡_, refl, sym, ap, _∙_}
 use mathlib.Core.Bool.{Bool, true, false, cond, true≢false}
 use mathlib.Core.List.{List, [], _∷_, _++_}
-use Prim.Native.Nat.{ℕ, _+_, _*_, _≤_}
+use Prim.Native.Nat.{ℕ, zero, suc, _+_, _*_, _≤_, _<_}
 use native.Mathlib.Omega.{arith}
 use lib.Dec.{eqb}
-use lib.ListN.{length, take, drop}
-use lib.Seq.{take-add}
+use lib.ListN.{length, take, drop, getD}
+use lib.Seq.{take-add, ext-getD}
 use Rattle.wire.proofs.Decides.{both}
 use Rattle.rules.specs.Rules.{Config, if_then_else_}
 use Rattle.rules.specs.Reader.{Reader, Answer, fresh, did, booked, push, status, took, bad, answer}
@@ -50,7 +50,21 @@ abbrev pub told : Pushed → Told
 told p = record { said = p .said; counts = p .reader .counts }
 
 -- what is seen of a reader decides its numbers
-module _ (c₁ : Counts) (f₁ : List ℕ) (c₂ : Counts) (f₂ : List ℕ) (seen : view c₁ f₁ ≡ view c₂ f₂) where
+module _ (c₁ : Counts) (f₁ : List ℕ) (c₂ : Counts) (f₂ : List ℕ) (a : length (c₁ .tally) ≡ 7) (b : length (c₂ .tally) ≡ 7) (seen : view c₁ f₁ ≡ view c₂ f₂) where
+  same-tally : c₁ .tally ≡ c₂ .tally
+  unfolding view
+  same-tally = ext-getD 0 (c₁ .tally) (c₂ .tally) (a ∙ sym b) (λ i h. go i (omega (arith, h, a)))
+    where
+      go : (i : ℕ) → i < 7 → getD (c₁ .tally) i 0 ≡ getD (c₂ .tally) i 0
+      go zero h = ap (λ (x : Reader). x .taken) seen
+      go (suc zero) h = ap (λ (x : Reader). x .discarded .noise) seen
+      go (suc (suc zero)) h = ap (λ (x : Reader). x .discarded .sum) seen
+      go (suc (suc (suc zero))) h = ap (λ (x : Reader). x .discarded .command) seen
+      go (suc (suc (suc (suc zero)))) h = ap (λ (x : Reader). x .discarded .number) seen
+      go (suc (suc (suc (suc (suc zero))))) h = ap (λ (x : Reader). x .discarded .echo) seen
+      go (suc (suc (suc (suc (suc (suc zero)))))) h = ap (λ (x : Reader). x .cleared) seen
+      go (suc (suc (suc (suc (suc (suc (suc i))))))) h = absurd (omega arith)
+
   pub same-counts : c₁ ≡ c₂
   unfolding view
   same-counts =
@@ -61,9 +75,7 @@ module _ (c₁ : Counts) (f₁ : List ℕ) (c₂ : Counts) (f₂ : List ℕ) (se
         command = seen i .config .command;
         mark = seen i .mark;
         strict = seen i .config .strict;
-        taken = seen i .taken;
-        discarded = seen i .discarded;
-        cleared = seen i .cleared;
+        tally = same-tally i;
         wanted = seen i .config .wanted;
         collected = k i;
         held = h i;
@@ -110,7 +122,7 @@ module _ {f : List ℕ} {c : Counts} {s : List ℕ} where
   told-once {x = x} {y = y} {g = g} {h = h} a b =
       let e = a .by-rule ∙ sym (b .by-rule) in
       let seen : view (x .counts) g ≡ view (y .counts) h = ap (λ (z : Answer). z .reader) e in
-      let k : x .counts ≡ y .counts = same-counts (x .counts) g (y .counts) h seen in
+      let k : x .counts ≡ y .counts = same-counts (x .counts) g (y .counts) h (a .seven) (b .seven) seen in
       let w = whole-once {x = x} {y = y} {g = g} {h = h} a b in
       λ i. both (record { said = record { status = e i .status; took = e i .took }; counts = k i }) (both (seen i) (w i))
 
@@ -138,6 +150,7 @@ module _ (f : List ℕ) (c : Counts) (s t : List ℕ) (st₁ tk₁ : ℕ) (c₁ 
       let k : tk₁ + tk₂ ≡ 0 = omega (arith, x .1, y .1) in
       record {
         by-rule = rw e (λ i. record { reader = v i; status = y .0 i; took = k i });
+        seven = b .seven;
         as-given = λ z. (y .2 ∙ x .2, y .3 ∙ x .3);
       }
 
@@ -153,6 +166,7 @@ module _ (f : List ℕ) (c : Counts) (s t : List ℕ) (st₁ tk₁ : ℕ) (c₁ 
       let k : tk₁ + tk₂ ≡ took (view c f .config) (did (view c f) (s ++ t)) (s ++ t) = (λ i. x .2 i + u i) ∙ parts (view c f) s t .taken in
       record {
         by-rule = rw e (λ i. record { reader = v i; status = w i; took = k i });
+        seven = b .seven;
         as-given = λ z. absurd (true≢false (sym z ∙ e));
       }
 

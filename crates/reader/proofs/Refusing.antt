@@ -2,7 +2,8 @@
 use mathlib.Core.Path.{_≡_, refl, sym, ap, _∙_}
 use mathlib.Core.Bool.{Bool, true, false, not, _&&_, _||_, true≢false}
 use mathlib.Core.List.{List}
-use Prim.Native.Nat.{ℕ, zero, suc, _*_, _≤_, _<_}
+use Prim.Native.Nat.{ℕ, zero, suc, _+_, _*_, _%_, _≤_, _<_}
+use native.Mathlib.Nat.{mod-add-mod}
 use native.Mathlib.Omega.{arith}
 use lib.ListN.{getD}
 use lib.Dec.{ltb, leb, eqb}
@@ -10,9 +11,9 @@ use borrow.Author.Tests.{ltb-true, ltb-false, leb-false, lt-ltb, le-ltb, le-leb,
 use Rattle.frame.specs.declared.Refusal.the-variants.{BadState}
 use Rattle.frame.specs.declared.Check.the-variants.{Sound}
 use Rattle.frame.specs.Refusals.{checkNumber, refuse}
-use Rattle.rules.specs.Reader.{complete, bad, stateNumber}
+use Rattle.rules.specs.Reader.{allOf, complete, bad, stateNumber}
 use Rattle.rules.proofs.Bools.{or-false, and-false}
-use Rattle.reader.specs.View.{front, view}
+use Rattle.reader.specs.View.{fiveIn, front, view}
 use Rattle.reader.specs.declared.Counts.{Counts}
 use Rattle.reader.proofs.Parts.{length-chop, length-front, first-of}
 
@@ -24,7 +25,7 @@ refused c f =
     || ltb (c .wanted) (c .collected)
     || (leb (c .wanted) (c .collected) && ltb 0 (c .held))
     || (ltb 0 (c .held) && not (eqb (getD f (13 * c .collected) 0) 0xA5))
-    || (ltb 512 (c .discarded) && not (c .mark))
+    || (ltb 512 (allOf (fiveIn (c .tally))) && not (c .mark))
 
 same-first : (n : ℕ) (l : List ℕ) → ltb 0 n && not (eqb (getD (front n l) 0 0) 0xA5) ≡ ltb 0 n && not (eqb (getD l 0 0) 0xA5)
 unfolding front
@@ -61,7 +62,7 @@ sane c f e =
         go false r = leb-false _ _ r
 
 -- and what its mark says
-pub few-unmarked : (c : Counts) (f : List ℕ) → bad (view c f) ≡ false → c .mark ≡ false → c .discarded ≤ 512
+pub few-unmarked : (c : Counts) (f : List ℕ) → bad (view c f) ≡ false → c .mark ≡ false → allOf (fiveIn (c .tally)) ≤ 512
 unfolding refused
 few-unmarked c f e m =
     let first : Bool =
@@ -70,11 +71,11 @@ few-unmarked c f e m =
     || ltb (c .wanted) (c .collected)
     || (leb (c .wanted) (c .collected) && ltb 0 (c .held))
     || (ltb 0 (c .held) && not (eqb (getD f (13 * c .collected) 0) 0xA5)) in
-    let x = or-false first (ltb 512 (c .discarded) && not (c .mark)) (sym (bad-refused c f) ∙ e) in go (ltb 512 (c .discarded)) refl (x .1)
+    let x = or-false first (ltb 512 (allOf (fiveIn (c .tally))) && not (c .mark)) (sym (bad-refused c f) ∙ e) in go (ltb 512 (allOf (fiveIn (c .tally)))) refl (x .1)
   where
-    go : (b : Bool) → ltb 512 (c .discarded) ≡ b → ltb 512 (c .discarded) && not (c .mark) ≡ false → c .discarded ≤ 512
+    go : (b : Bool) → ltb 512 (allOf (fiveIn (c .tally))) ≡ b → ltb 512 (allOf (fiveIn (c .tally))) && not (c .mark) ≡ false → allOf (fiveIn (c .tally)) ≤ 512
     go true q x = absurd (true≢false (rw (q, m) at x))
-    go false q x = ltb-false 512 (c .discarded) q
+    go false q x = ltb-false 512 (allOf (fiveIn (c .tally))) q
 
 -- the tests in the code's order
 module _ (c : Counts) (f : List ℕ) where
@@ -93,12 +94,12 @@ module _ (c : Counts) (f : List ℕ) where
       too-far k = rw (bad-refused c f, le-ltb 12 (c .held) h, le-ltb 85 (c .wanted) w, lt-ltb (c .wanted) (c .collected) k)
 
       module _ (k : c .collected ≤ c .wanted) where
-        start : refused c f ≡ (leb (c .wanted) (c .collected) && ltb 0 (c .held)) || (ltb 0 (c .held) && not (eqb (getD f (13 * c .collected) 0) 0xA5)) || (ltb 512 (c .discarded) && not (c .mark))
+        start : refused c f ≡ (leb (c .wanted) (c .collected) && ltb 0 (c .held)) || (ltb 0 (c .held) && not (eqb (getD f (13 * c .collected) 0) 0xA5)) || (ltb 512 (allOf (fiveIn (c .tally))) && not (c .mark))
         unfolding refused
         start = rw (le-ltb 12 (c .held) h, le-ltb 85 (c .wanted) w, le-ltb (c .wanted) (c .collected) k)
 
-        pub empty : c .held ≡ 0 → bad (view c f) ≡ ltb 512 (c .discarded) && not (c .mark)
-        empty z = bad-refused c f ∙ start ∙ (let q : ltb 0 (c .held) ≡ false = le-ltb 0 (c .held) (omega arith) in rw q (go (leb (c .wanted) (c .collected)) (ltb 512 (c .discarded) && not (c .mark))))
+        pub empty : c .held ≡ 0 → bad (view c f) ≡ ltb 512 (allOf (fiveIn (c .tally))) && not (c .mark)
+        empty z = bad-refused c f ∙ start ∙ (let q : ltb 0 (c .held) ≡ false = le-ltb 0 (c .held) (omega arith) in rw q (go (leb (c .wanted) (c .collected)) (ltb 512 (allOf (fiveIn (c .tally))) && not (c .mark))))
           where
             go : (a b : Bool) → (a && false) || false || b ≡ b
             go true b = refl
@@ -115,7 +116,7 @@ module _ (c : Counts) (f : List ℕ) where
             pub not-begun : (getD f (13 * c .collected) 0 ≡ 0xA5 → ⊥) → 8 ≡ stateNumber (view c f)
             not-begun n = rw (bad-refused c f, start, some?, lt-leb (c .wanted) (c .collected) l, ne-eqb (getD f (13 * c .collected) 0) 0xA5 n)
 
-            pub begun : getD f (13 * c .collected) 0 ≡ 0xA5 → bad (view c f) ≡ ltb 512 (c .discarded) && not (c .mark)
+            pub begun : getD f (13 * c .collected) 0 ≡ 0xA5 → bad (view c f) ≡ ltb 512 (allOf (fiveIn (c .tally))) && not (c .mark)
             begun n = bad-refused c f ∙ start ∙ rw (some?, lt-leb (c .wanted) (c .collected) l, eq-eqb (getD f (13 * c .collected) 0) 0xA5 n)
 
   -- whatever is held, and wherever the collected frames end
@@ -150,3 +151,11 @@ module _ (c : Counts) (f : List ℕ) where
 -- a test that is known decides the number
 pub numbered : {a b : Bool} → a ≡ b → checkNumber (refuse b BadState Sound) ≡ checkNumber (refuse a BadState Sound)
 numbered e = ap (λ (t : Bool). checkNumber (refuse t BadState Sound)) (sym e)
+
+-- five numbers added one after the other, each time modulo 2^32
+pub five-wrapped : (a b c d e : ℕ) → ((((a + b) % 4294967296 + c) % 4294967296 + d) % 4294967296 + e) % 4294967296 ≡ (a + b + c + d + e) % 4294967296
+five-wrapped a b c d e = rw (mod-add-mod (a + b) 4294967296 c, mod-add-mod (a + b + c) 4294967296 d, mod-add-mod (a + b + c + d) 4294967296 e)
+
+-- a count that is known
+pub recounted : {x y : ℕ} (m : Bool) → x ≡ y → checkNumber (refuse (ltb 512 x && not m) BadState Sound) ≡ checkNumber (refuse (ltb 512 y && not m) BadState Sound)
+recounted m e = ap (λ (z : ℕ). checkNumber (refuse (ltb 512 z && not m) BadState Sound)) e

@@ -9,12 +9,12 @@ use borrow.Author.Tests.{ltb-true, ltb-false}
 use Rattle.wire.proofs.Decides.{both}
 use Rattle.rules.specs.Reader.{Reader, bad, missing, push, booked, status, stateNumber}
 use Rattle.rules.proofs.Demand.{bad-push}
-use Rattle.reader.specs.View.{view, Answered}
+use Rattle.reader.specs.View.{view, counted, Answered}
 use Rattle.reader.specs.Lent.{TurnedInto}
 use Rattle.reader.specs.declared.Counts.{Counts}
 use Rattle.reader.specs.declared.Missing.{Missing}
 use Rattle.reader.specs.declared.Told.{Told}
-use Rattle.reader.specs.declared.Turned.{Turned}
+use Rattle.reader.specs.declared.Turn.{Turn}
 use Rattle.reader.proofs.Refusing.{sane}
 use Rattle.reader.proofs.Asking.{missing-complete, missing-open}
 use Rattle.reader.proofs.Promise.{answered-push, answered-refused, shown, told-once}
@@ -77,13 +77,13 @@ module _ (f : List ℕ) (c : Counts) (s : List ℕ) (st tk : ℕ) (c′ : Counts
             by-count (λ z. never-8 (push (view c f) s) (sym (answered-push f c s st tk c′ f′ a e .1) ∙ z))
 
 -- the answer is one, but for places of the array that no one sees; with 8 those too
-abbrev toldOf : Turned → Told
-toldOf x = record { said = record { status = x .turn .status; took = x .turn .took }; counts = x .counts }
+abbrev toldOf : Turn → Counts → Told
+toldOf x m = record { said = record { status = x .status; took = x .took }; counts = m }
 
 module _ {f : List ℕ} {c : Counts} {s : List ℕ} where
-  pub turned-into-once : {x y : Turned} {g h : List ℕ} → TurnedInto f c s (x .turn) (x .counts) g → TurnedInto f c s (y .turn) (y .counts) h
-      → both x (shown (x .turn .status) (x .counts) g) ≡ both y (shown (y .turn .status) (y .counts) h)
-  turned-into-once {x = x} {y = y} {g = g} {h = h} a b =
-      let e = told-once {x = toldOf x} {y = toldOf y} (a .answered) (b .answered) in
-      let m : x .turn .missing ≡ y .turn .missing = a .missing ∙ ap (λ z. missing (z .1 .0)) e ∙ sym (b .missing) in
-      λ i. both (record { turn = record { status = e i .0 .said .status; missing = m i; took = e i .0 .said .took }; counts = e i .0 .counts }) (e i .1)
+  pub turned-into-once : {x y : Turn} {m n : Counts} {g h : List ℕ} → TurnedInto f c s x m g → TurnedInto f c s y n h
+      → both x (both m (shown (x .status) m g)) ≡ both y (both n (shown (y .status) n h))
+  turned-into-once {x = x} {y = y} {m = m} {n = n} {g = g} {h = h} a b =
+      let e = told-once {x = toldOf x m} {y = toldOf y n} (a .answered) (b .answered) in
+      let k : x .missing ≡ y .missing = a .missing ∙ ap (λ z. missing (z .1 .0)) e ∙ sym (b .missing) in
+      λ i. both (record { status = e i .0 .said .status; missing = k i; took = e i .0 .said .took }) (both (e i .0 .counts) (e i .1))

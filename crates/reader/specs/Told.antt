@@ -16,7 +16,7 @@ use Rattle.reader.specs.declared.Completed.{Completed}
 -- a reader into which nothing was pushed: its numbers, and these with its array, all 0
 abbrev pub freshCounts : ℕ → ℕ → Bool → Counts
 freshCounts command wanted strict =
-    record { command = command; mark = false; strict = strict; taken = 0; discarded = 0; cleared = 0; wanted = wanted; collected = 0; held = 0 }
+    record { command = command; mark = false; strict = strict; tally = replicate 7 0; wanted = wanted; collected = 0; held = 0 }
 
 abbrev pub freshReader : ℕ → ℕ → Bool → FrameReader
 freshReader command wanted strict = record { counts = freshCounts command wanted strict; frames = replicate 1105 0 }

@@ -4,27 +4,40 @@ ghost use Prim.Native.Nat.{_-_, _≤_, _<_};
 ghost use lib.ListN.{length};
 ghost use Rattle.rules.specs.Reader.{copyCheck, joined};
 ghost use Rattle.list.specs.Listed.{Stores};
-ghost use Rattle.reader.specs.View.{view, Answered};
+ghost use Rattle.reader.specs.View.{view, counted, standingOf, Answered};
 ghost use Rattle.reader.specs.Told.{opened, openingOf, freshCounts, missingTold, completeTold};
 ghost use Rattle.reader.specs.Lent.{TurnedInto};
 use frame::Refusal;
 use list::Listed;
 use moves::advance;
-use scan::add_count;
+use state::state_number;
+use tally::TAKEN;
+use tally::add_count;
 
 mod moves;
 mod scan;
 mod state;
+pub mod tally;
 
-// A reader's numbers: what it was asked for, what it has counted, and how much of its array is in use.
+// A reader's numbers: what it was asked for, what it has counted (the tally, whose places `tally` names), and how much of its array is in use.
 #[repr(C)]
 pub struct Counts {
     pub command: u8,
     pub mark: bool,
     pub strict: bool,
-    pub taken: u32,
-    pub discarded: u32,
-    pub cleared: u32,
+    pub tally: [u32; 7],
+    pub wanted: usize,
+    pub collected: usize,
+    pub held: usize,
+}
+
+// The numbers without the tally: a push takes them by value, and the tally where it lies. Counts that are copied to and fro are slow: they are stored
+// one by one and loaded several at once.
+#[repr(C)]
+pub struct Standing {
+    pub command: u8,
+    pub mark: bool,
+    pub strict: bool,
     pub wanted: usize,
     pub collected: usize,
     pub held: usize,
@@ -58,7 +71,14 @@ pub struct Said {
     pub took: usize,
 }
 
-// What it answers beside the frames, where those are lent.
+// What it answers beside the frames and the tally, where those are lent.
+#[repr(C)]
+pub struct Went {
+    pub said: Said,
+    pub standing: Standing,
+}
+
+// What it answers beside the frames, where those are lent and the numbers are not.
 #[repr(C)]
 pub struct Told {
     pub said: Said,
@@ -73,11 +93,11 @@ pub struct Turn {
     pub took: usize,
 }
 
-// What it then answers beside the frames.
+// What it then answers beside the frames and the tally.
 #[repr(C)]
 pub struct Turned {
     pub turn: Turn,
-    pub counts: Counts,
+    pub standing: Standing,
 }
 
 // What it answers by value.
@@ -101,31 +121,48 @@ pub struct Completed {
     pub complete: bool,
 }
 
-// The numbers as they were: field by field, since a copy of the whole would carry the byte of padding behind `strict` through every push.
-fn as_given(given: Counts) -> Counts
+// The numbers without the tally.
+fn standing_of(c: Counts) -> Standing
+    ensures { λ r. ⌜ r ≡ standingOf c ⌝ }
+{
+    Standing {
+        command: c.command,
+        mark: c.mark,
+        strict: c.strict,
+        wanted: c.wanted,
+        collected: c.collected,
+        held: c.held,
+    }
+}
+
+// The numbers as they were: field by field, since a copy of the whole would carry the bytes of padding behind `strict` through every push.
+fn as_given(given: Standing) -> Standing
     ensures { λ r. ⌜ r ≡ given ⌝ }
 {
-    Counts {
+    Standing {
         command: given.command,
         mark: given.mark,
         strict: given.strict,
-        taken: given.taken,
-        discarded: given.discarded,
-        cleared: given.cleared,
         wanted: given.wanted,
         collected: given.collected,
         held: given.held,
     }
 }
 
-// A push on the frames, lent, and the numbers by value: the core, which copies no frame that it does not collect.
-pub fn push_into(frames: &mut [u8; 1105], c: Counts, chunk: &[u8]) -> Told
-    ensures { λ r. ⌜ Answered (now (frames .entry)) c (now (chunk .entry)) (r .said .status) (r .said .took) (r .counts) (now (frames .exit)) ⌝ }
+// A push on the frames and the tally, lent, and the other numbers by value: the core, which copies no frame that it does not collect and no count.
+pub fn push_into(
+    frames: &mut [u8; 1105],
+    tally: &mut [u32; 7],
+    c: Standing,
+    chunk: &[u8],
+) -> Went
+    ensures { λ r. ⌜ Answered (now (frames .entry)) (counted c (now (tally .entry))) (now (chunk .entry)) (r .said .status) (r .said .took) (counted (r .standing) (now (tally .exit))) (now (frames .exit)) ⌝ }
 {
-    if state::state_number(frames, c) != 0 {
-        return Told {
+    let before = state::all_of(tally);
+    if state_number(frames, tally, c) != 0 {
+        return Went {
             said: Said { status: 8, took: 0 },
-            counts: as_given(c),
+            standing: as_given(c),
         };
     }
     let m = advance(
@@ -136,31 +173,51 @@ pub fn push_into(frames: &mut [u8; 1105], c: Counts, chunk: &[u8]) -> Told
         c.strict,
         c.wanted,
         c.collected,
-        c.cleared,
+        tally,
     );
-    let mark = state::passed(c.mark, c.discarded, m.lost);
-    let next = Counts {
+    let mark = state::passed(c.mark, before, m.lost);
+    tally[TAKEN] = add_count(tally[TAKEN], m.took);
+    let next = Standing {
         command: c.command,
         mark: mark,
         strict: c.strict,
-        taken: add_count(c.taken, m.took),
-        discarded: add_count(c.discarded, m.lost),
-        cleared: m.cleared,
         wanted: c.wanted,
         collected: m.collected,
         held: m.held,
     };
-    Told {
+    Went {
         said: Said {
             status: state::status_of(mark),
             took: m.took,
         },
-        counts: next,
+        standing: next,
+    }
+}
+
+// The push on lent frames with all numbers by value.
+pub fn push_counts(frames: &mut [u8; 1105], c: Counts, chunk: &[u8]) -> Told
+    ensures { λ r. ⌜ Answered (now (frames .entry)) c (now (chunk .entry)) (r .said .status) (r .said .took) (r .counts) (now (frames .exit)) ⌝ }
+{
+    let mut tally = c.tally;
+    let w = push_into(frames, &mut tally, standing_of(c), chunk);
+    let said = w.said;
+    let next = w.standing;
+    Told {
+        said: said,
+        counts: Counts {
+            command: next.command,
+            mark: next.mark,
+            strict: next.strict,
+            tally: tally,
+            wanted: next.wanted,
+            collected: next.collected,
+            held: next.held,
+        },
     }
 }
 
 // How many bytes the next frame needs after a push: a reader that was not refused is not in a bad state.
-fn missing_after(status: u8, next: Counts) -> u8
+fn missing_after(status: u8, next: Standing) -> u8
     requires { ⌜ ((status ≡ 8 → ⊥) → next .held ≤ 12) ⌝ }
     ensures { λ r. ⌜ (status ≡ 8 → r ≡ 0) × ((status ≡ 8 → ⊥) → next .wanted ≤ next .collected → r ≡ 0) × ((status ≡ 8 → ⊥) → next .collected < next .wanted → r ≡ 13 - next .held) ⌝ }
 {
@@ -174,19 +231,24 @@ fn missing_after(status: u8, next: Counts) -> u8
 }
 
 // The push that also tells what is then missing, so that a turn of a loop has one call.
-pub fn turn_into(frames: &mut [u8; 1105], c: Counts, chunk: &[u8]) -> Turned
-    ensures { λ r. ⌜ TurnedInto (now (frames .entry)) c (now (chunk .entry)) (r .turn) (r .counts) (now (frames .exit)) ⌝ }
+pub fn turn_into(
+    frames: &mut [u8; 1105],
+    tally: &mut [u32; 7],
+    c: Standing,
+    chunk: &[u8],
+) -> Turned
+    ensures { λ r. ⌜ TurnedInto (now (frames .entry)) (counted c (now (tally .entry))) (now (chunk .entry)) (r .turn) (counted (r .standing) (now (tally .exit))) (now (frames .exit)) ⌝ }
 {
-    let t = push_into(frames, c, chunk);
-    let said = t.said;
-    let next = t.counts;
+    let w = push_into(frames, tally, c, chunk);
+    let said = w.said;
+    let next = w.standing;
     Turned {
         turn: Turn {
             status: said.status,
             missing: missing_after(said.status, next),
             took: said.took,
         },
-        counts: next,
+        standing: next,
     }
 }
 
@@ -194,7 +256,8 @@ pub fn turn_into(frames: &mut [u8; 1105], c: Counts, chunk: &[u8]) -> Turned
 pub fn missing_of(frames: &[u8; 1105], c: Counts) -> Missing
     ensures { λ r. ⌜ r ≡ missingTold (view c (now (frames .entry))) ⌝ }
 {
-    let number = state::state_number(frames, c);
+    let s = standing_of(c);
+    let number = state_number(frames, &c.tally, s);
     if number != 0 {
         return Missing {
             number: number,
@@ -217,7 +280,8 @@ pub fn missing_of(frames: &[u8; 1105], c: Counts) -> Missing
 pub fn completed_of(frames: &[u8; 1105], c: Counts) -> Completed
     ensures { λ r. ⌜ r ≡ completeTold (view c (now (frames .entry))) ⌝ }
 {
-    let number = state::state_number(frames, c);
+    let s = standing_of(c);
+    let number = state_number(frames, &c.tally, s);
     if number != 0 {
         return Completed {
             number: number,
@@ -234,7 +298,8 @@ pub fn completed_of(frames: &[u8; 1105], c: Counts) -> Completed
 pub fn copy_from(frames: &[u8; 1105], c: Counts, out: &mut [u8]) -> Listed
     ensures { λ r. ⌜ Stores (copyCheck (view c (now (frames .entry))) (length (now (out .entry)))) (joined (view c (now (frames .entry)) .collected)) (now (out .entry)) r (now (out .exit)) ⌝ }
 {
-    if state::state_number(frames, c) != 0 {
+    let s = standing_of(c);
+    if state_number(frames, &c.tally, s) != 0 {
         return Listed::NotStored(Refusal::BadState);
     }
     let n = 13 * c.collected;
@@ -253,9 +318,7 @@ fn fresh_counts(command: u8, wanted: usize, strict: bool) -> Counts
         command: command,
         mark: false,
         strict: strict,
-        taken: 0,
-        discarded: 0,
-        cleared: 0,
+        tally: [0u32; 7],
         wanted: wanted,
         collected: 0,
         held: 0,
@@ -309,7 +372,7 @@ impl FrameReader {
         ensures { λ r. ⌜ Answered (self .frames) (self .counts) (now (chunk .entry)) (r .said .status) (r .said .took) (r .reader .counts) (r .reader .frames) ⌝ }
     {
         let mut out = self;
-        let t = push_into(&mut out.frames, self.counts, chunk);
+        let t = push_counts(&mut out.frames, self.counts, chunk);
         let counts = t.counts;
         out.counts = counts;
         let said = t.said;

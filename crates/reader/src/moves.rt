@@ -9,13 +9,14 @@ ghost use Rattle.reader.specs.Steps.{Moves};
 use crate::scan::copy;
 use crate::scan::is_noise;
 use crate::scan::scan;
+use crate::tally::NOISE;
+use crate::tally::add_count;
 
-// What a push came to: the bytes taken and discarded, the frames collected, the count of frames cleared, the bytes held.
+// What a push came to: the bytes taken and discarded, the frames collected, the bytes held. What it counted stands in the tally that it was lent.
 pub struct Moved {
     pub took: usize,
     pub lost: usize,
     pub collected: usize,
-    pub cleared: u32,
     pub held: usize,
 }
 
@@ -44,26 +45,26 @@ fn direct(
     strict: bool,
     wanted: usize,
     collected: usize,
-    count: u32,
+    tally: &mut [u32; 7],
 ) -> Moved
-    requires { ⌜ (at ≤ length (now chunk)) × (collected ≤ wanted) × (wanted ≤ 85) ⌝ }
-    ensures { λ r. ⌜ Moves (config command wanted strict) (run (config command wanted strict) (chop collected (now (frames .entry))) (drop at (now (chunk .entry)))) count (now (chunk .entry)) (now (frames .exit)) r × (r .lost ≤ length (now (chunk .entry))) ⌝ }
+    requires { ⌜ (at ≤ length (now chunk)) × (collected ≤ wanted) × (wanted ≤ 85) × (length (now tally) ≡ 7) ⌝ }
+    ensures { λ r. ⌜ Moves (config command wanted strict) (run (config command wanted strict) (chop collected (now (frames .entry))) (drop at (now (chunk .entry)))) (now (tally .entry)) (now (tally .exit)) (now (chunk .entry)) (now (frames .exit)) r × (r .lost ≤ length (now (chunk .entry))) ⌝ }
 {
     // Bytes of noise often come few at a time: they are discarded without a scan, which passes over more of them quickly itself.
     if collected < wanted {
         if chunk.len() - at < 32 {
             if is_noise(chunk, at) {
+                tally[NOISE] = add_count(tally[NOISE], chunk.len() - at);
                 return Moved {
                     took: chunk.len(),
                     lost: chunk.len() - at,
                     collected: collected,
-                    cleared: count,
                     held: 0,
                 };
             }
         }
     }
-    let p = scan(chunk, at, frames, command, strict, wanted, collected, count);
+    let p = scan(chunk, at, frames, command, strict, wanted, collected, tally);
     let stop = p.at;
     let have = p.collected;
     if wanted <= have {
@@ -71,7 +72,6 @@ fn direct(
             took: stop,
             lost: p.lost,
             collected: have,
-            cleared: p.cleared,
             held: 0,
         };
     }
@@ -80,7 +80,6 @@ fn direct(
         took: chunk.len(),
         lost: p.lost,
         collected: have,
-        cleared: p.cleared,
         held: k,
     }
 }
@@ -127,10 +126,10 @@ fn bridged(
     strict: bool,
     wanted: usize,
     collected: usize,
-    count: u32,
+    tally: &mut [u32; 7],
 ) -> Moved
-    requires { ⌜ (held ≤ 12) × (collected < wanted) × (wanted ≤ 85) ⌝ }
-    ensures { λ r. ⌜ Moves (config command wanted strict) (run (config command wanted strict) (chop collected (now (frames .entry))) (front held (drop (13 * collected) (now (frames .entry))) ++ now (chunk .entry))) count (now (chunk .entry)) (now (frames .exit)) r ⌝ }
+    requires { ⌜ (held ≤ 12) × (collected < wanted) × (wanted ≤ 85) × (length (now tally) ≡ 7) ⌝ }
+    ensures { λ r. ⌜ Moves (config command wanted strict) (run (config command wanted strict) (chop collected (now (frames .entry))) (front held (drop (13 * collected) (now (frames .entry))) ++ now (chunk .entry))) (now (tally .entry)) (now (tally .exit)) (now (chunk .entry)) (now (frames .exit)) r ⌝ }
 {
     let mut w = [0u8; 24];
     let m = bridge(frames, collected, held, chunk, &mut w);
@@ -142,7 +141,7 @@ fn bridged(
         strict,
         wanted,
         collected,
-        count,
+        tally,
     );
     let stop = p.at;
     let have = p.collected;
@@ -152,7 +151,6 @@ fn bridged(
             took: chunk.len(),
             lost: p.lost,
             collected: have,
-            cleared: p.cleared,
             held: k,
         };
     }
@@ -164,13 +162,12 @@ fn bridged(
         strict,
         wanted,
         have,
-        p.cleared,
+        tally,
     );
     Moved {
         took: q.took,
         lost: p.lost + q.lost,
         collected: q.collected,
-        cleared: q.cleared,
         held: q.held,
     }
 }
@@ -184,13 +181,13 @@ pub(crate) fn advance(
     strict: bool,
     wanted: usize,
     collected: usize,
-    count: u32,
+    tally: &mut [u32; 7],
 ) -> Moved
-    requires { ⌜ (held ≤ 12) × (wanted ≤ 85) × (collected ≤ wanted) × (0 < held → collected < wanted) × (0 < held → getD (now frames) (13 * collected) 0 ≡ 0xA5) ⌝ }
-    ensures { λ r. ⌜ Moves (config command wanted strict) (run (config command wanted strict) (chop collected (now (frames .entry))) (front held (drop (13 * collected) (now (frames .entry))) ++ now (chunk .entry))) count (now (chunk .entry)) (now (frames .exit)) r ⌝ }
+    requires { ⌜ (held ≤ 12) × (wanted ≤ 85) × (collected ≤ wanted) × (0 < held → collected < wanted) × (0 < held → getD (now frames) (13 * collected) 0 ≡ 0xA5) × (length (now tally) ≡ 7) ⌝ }
+    ensures { λ r. ⌜ Moves (config command wanted strict) (run (config command wanted strict) (chop collected (now (frames .entry))) (front held (drop (13 * collected) (now (frames .entry))) ++ now (chunk .entry))) (now (tally .entry)) (now (tally .exit)) (now (chunk .entry)) (now (frames .exit)) r ⌝ }
 {
     if held == 0 {
-        return direct(frames, chunk, 0, command, strict, wanted, collected, count);
+        return direct(frames, chunk, 0, command, strict, wanted, collected, tally);
     }
     let len = chunk.len();
     if len < 13 - held {
@@ -199,7 +196,6 @@ pub(crate) fn advance(
             took: len,
             lost: 0,
             collected: collected,
-            cleared: count,
             held: held + len,
         };
     }
@@ -211,6 +207,6 @@ pub(crate) fn advance(
         strict,
         wanted,
         collected,
-        count,
+        tally,
     )
 }

@@ -6,24 +6,23 @@ ghost use lib.Dec.{eqb};
 ghost use Rattle.wire.specs.Bytes.{byteAt};
 ghost use lib.ListN.{length, drop};
 ghost use lib.Seq.{paste};
-ghost use Rattle.rules.specs.Rules.{judge, lost as lostOf, restarts, if_then_else_};
+ghost use Rattle.rules.specs.Rules.{sumRight, judge, restarts, if_then_else_};
 ghost use Rattle.rules.specs.Ledger.{run};
-ghost use Rattle.reader.specs.View.{config, chop};
+ghost use Rattle.reader.specs.View.{config, chop, seatOf};
 ghost use Rattle.reader.specs.Steps.{Ran, Quiet};
+use crate::tally::CLEARED;
+use crate::tally::COMMAND;
+use crate::tally::ECHO;
+use crate::tally::NOISE;
+use crate::tally::NUMBER;
+use crate::tally::SUM;
+use crate::tally::add_count;
 
-// Where a scan has come to: the place in the slice, the bytes discarded, the frames collected, and the count of frames cleared.
+// Where a scan has come to: the place in the slice, the bytes discarded, and the frames collected.
 pub struct Progress {
     pub at: usize,
     pub lost: usize,
     pub collected: usize,
-    pub cleared: u32,
-}
-
-// A count goes on, modulo 2^32.
-pub(crate) fn add_count(count: u32, more: usize) -> u32
-    ensures { λ r. ⌜ r ≡ (count + more) % 4294967296 ⌝ }
-{
-    std::num::wrapping_add_u32(count, (more % 0x1_0000_0000) as u32)
 }
 
 // n bytes of `from`, from `at` on, go to `to` from `start` on.
@@ -125,23 +124,28 @@ fn is_echo(w: &[u8], strict: bool) -> bool
     false
 }
 
-// How many bytes of w, which are 13 and begin with A5, are discarded: 1, 13, or 0 where w is collected.
-fn discards(w: &[u8], command: u8, strict: bool, wanted: usize, have: usize) -> usize
-    requires { ⌜ (length (now w) ≡ 13) × (have < 85) ⌝ }
-    ensures { λ r. ⌜ (r ≡ lostOf (judge (config command wanted strict) have (now (w .entry)))) × (r ≤ 13) ⌝ }
+// Whether the sum of w, of 13 bytes, is right.
+fn is_summed(w: &[u8]) -> bool
+    requires { ⌜ length (now w) ≡ 13 ⌝ }
+    ensures { λ r. ⌜ r ≡ sumRight (now (w .entry)) ⌝ }
 {
     let sum = frame::calc_crc(w);
-    // "wrong sum: one byte is discarded"
-    if w[12] != sum {
-        return 1;
-    }
+    w[12] == sum
+}
+
+// What becomes of w, which is 13 bytes, begins with A5 and has a right sum: the place in the tally where its bytes are counted, or 0
+// where w is collected.
+fn seat_of(w: &[u8], command: u8, strict: bool, wanted: usize, have: usize) -> usize
+    requires { ⌜ (length (now w) ≡ 13) × (have < 85) × (sumRight (now w) ≡ true) ⌝ }
+    ensures { λ r. ⌜ (r ≡ seatOf (judge (config command wanted strict) have (now (w .entry)))) × (r < 7) × (0 < r → 2 < r) ⌝ }
+{
     // "wrong command: 13 are discarded"
     if w[2] != command {
-        return frame::FRAME_LENGTH;
+        return COMMAND;
     }
     // "discards an echo whole, after the command check and before the number check" (K1)
     if is_echo(w, strict) {
-        return w.len();
+        return ECHO;
     }
     // "With n = 1 the number is not read"
     if wanted <= 1 {
@@ -154,7 +158,7 @@ fn discards(w: &[u8], command: u8, strict: bool, wanted: usize, have: usize) -> 
     }
     // "a number other than collected + 1 discards 13"
     if number != (have + 1) as u8 {
-        return 13;
+        return NUMBER;
     }
     0
 }
@@ -183,38 +187,46 @@ pub(crate) fn scan(
     strict: bool,
     wanted: usize,
     collected: usize,
-    count: u32,
+    tally: &mut [u32; 7],
 ) -> Progress
-    requires { ⌜ (from ≤ length (now s)) × (collected ≤ wanted) × (wanted ≤ 85) ⌝ }
-    ensures { λ r. ⌜ Ran (run (config command wanted strict) (chop collected (now (frames .entry))) (drop from (now (s .entry)))) count wanted (now (s .entry)) (now (frames .exit)) r ⌝ }
+    requires { ⌜ (from ≤ length (now s)) × (collected ≤ wanted) × (wanted ≤ 85) × (length (now tally) ≡ 7) ⌝ }
+    ensures { λ r. ⌜ Ran (run (config command wanted strict) (chop collected (now (frames .entry))) (drop from (now (s .entry)))) (now (tally .entry)) (now (tally .exit)) wanted (now (s .entry)) (now (frames .exit)) r ⌝ }
 {
     let end = s.len();
     let mut at = from;
     let mut lost: usize = 0;
     let mut have = collected;
-    let mut cleared = count;
     while at < end {
         if wanted <= have {
             break;
         }
         if s[at] != 0xA5 {
             let next = start_from(s, at + 1);
+            tally[NOISE] = add_count(tally[NOISE], next - at);
             lost += next - at;
             at = next;
         } else {
             if end - at < 13 {
                 break;
             }
-            let d = discards(&s[at..at + 13], command, strict, wanted, have);
-            if d == 0 {
-                let k = staying(&s[at..at + 13], wanted, have);
-                put(frames, 13 * k, s, at);
-                cleared = add_count(cleared, have - k);
-                have = k + 1;
-                at += 13;
+            // "wrong sum: one byte is discarded"
+            if !is_summed(&s[at..at + 13]) {
+                tally[SUM] = add_count(tally[SUM], 1);
+                lost += 1;
+                at += 1;
             } else {
-                lost += d;
-                at += d;
+                let seat = seat_of(&s[at..at + 13], command, strict, wanted, have);
+                if seat == 0 {
+                    let k = staying(&s[at..at + 13], wanted, have);
+                    put(frames, 13 * k, s, at);
+                    tally[CLEARED] = add_count(tally[CLEARED], have - k);
+                    have = k + 1;
+                    at += 13;
+                } else {
+                    tally[seat] = add_count(tally[seat], 13);
+                    lost += 13;
+                    at += 13;
+                }
             }
         }
     }
@@ -222,6 +234,5 @@ pub(crate) fn scan(
         at: at,
         lost: lost,
         collected: have,
-        cleared: cleared,
     }
 }

@@ -19,12 +19,22 @@ use Rattle.report.specs.Lists.{cellsText, sensorsText, balanceText, faul
 abbrev pub countsHead : ℕ → Tally → List ℕ
 countsHead command t = word "reply " ++ hex2 command ++ field (word " taken") (t .taken) ++ field (word " held") (t .held)
 
-abbrev pub countsText : ℕ → Tally → List ℕ
-countsText command t =
+abbrev pub countsMiddle : ℕ → Tally → List ℕ
+countsMiddle command t =
     countsHead command t
     ++ field (word " frames") (t .frames)
     ++ field (word " discarded") (t .discarded)
     ++ field (word " cleared") (t .cleared)
+
+-- (document 02, K3) "its line ends with them after `cleared`"
+abbrev pub countsText : ℕ → Tally → List ℕ
+countsText command t =
+    countsMiddle command t
+    ++ field (word " noise") (t .noise)
+    ++ field (word " sum") (t .sum)
+    ++ field (word " command") (t .command)
+    ++ field (word " number") (t .number)
+    ++ field (word " echo") (t .echo)
     ++ newline
 
 -- the decoder's answer on the collected bytes; 10: "command not 90 to 98"

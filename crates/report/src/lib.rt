@@ -1,19 +1,24 @@
 // What `readreply` prints after the input's end, as text in a lent buffer: one line of counts, then the reply's fields or `refused N`.
 ghost use Rattle.text.specs.Text.{Put};
 ghost use Rattle.report.specs.Lines.{refusalLine, flagLine};
-ghost use Rattle.report.specs.Report.{countsHead, countsText, answerText, reportText};
+ghost use Rattle.report.specs.Report.{countsHead, countsMiddle, countsText, answerText, reportText};
 use frame::Refusal;
 
 mod fields;
 mod lists;
 
-// What a reader counted over the stream, the bytes it holds and the frames it has collected.
+// What a reader counted over the stream, the bytes it holds and the frames it has collected; then why bytes were discarded.
 pub struct Tally {
     pub taken: u32,
     pub held: usize,
     pub frames: usize,
     pub discarded: u32,
     pub cleared: u32,
+    pub noise: u32,
+    pub sum: u32,
+    pub command: u32,
+    pub number: u32,
+    pub echo: u32,
 }
 
 pub(crate) fn put_refusal(out: &mut [u8], at: usize, refusal: Refusal) -> usize
@@ -41,13 +46,25 @@ fn put_head(out: &mut [u8], command: u8, tally: Tally) -> usize
     text::put_field(out, next, b" held", tally.held as u64)
 }
 
-fn put_counts(out: &mut [u8], command: u8, tally: Tally) -> usize
-    ensures { λ r. ⌜ Put (now (out .entry)) 0 (countsText command tally) (now (out .exit)) r ⌝ }
+// And as far as the frames cleared.
+fn put_middle(out: &mut [u8], command: u8, tally: Tally) -> usize
+    ensures { λ r. ⌜ Put (now (out .entry)) 0 (countsMiddle command tally) (now (out .exit)) r ⌝ }
 {
     let next = put_head(out, command, tally);
     let next = text::put_field(out, next, b" frames", tally.frames as u64);
     let next = text::put_field(out, next, b" discarded", tally.discarded as u64);
-    let next = text::put_field(out, next, b" cleared", tally.cleared as u64);
+    text::put_field(out, next, b" cleared", tally.cleared as u64)
+}
+
+fn put_counts(out: &mut [u8], command: u8, tally: Tally) -> usize
+    ensures { λ r. ⌜ Put (now (out .entry)) 0 (countsText command tally) (now (out .exit)) r ⌝ }
+{
+    let next = put_middle(out, command, tally);
+    let next = text::put_field(out, next, b" noise", tally.noise as u64);
+    let next = text::put_field(out, next, b" sum", tally.sum as u64);
+    let next = text::put_field(out, next, b" command", tally.command as u64);
+    let next = text::put_field(out, next, b" number", tally.number as u64);
+    let next = text::put_field(out, next, b" echo", tally.echo as u64);
     text::put_byte(out, next, b'\n')
 }
 

@@ -10,10 +10,10 @@ use lib.ListN.{length, take, getD, replicate, length-append}
 use Rattle.wire.specs.Bytes.{byteAt}
 use Rattle.frame.specs.Frame.{sum, total}
 use Rattle.rules.specs.Rules.{Config, Fate, noise, discarded as thrown, sumRight, restarts, judge, look, stay, after, drops}
-use Rattle.rules.specs.Ledger.{Line, discards, clears, spent, turns, run, total as counted}
-use Rattle.rules.specs.Reader.{Reader, Answer, wrap, fresh, complete, heldOf, untaken, did, booked, push, status, bad, answer, joined}
+use Rattle.rules.specs.Ledger.{Line, lostFor, discardsFor, clears, spent, turns, run, total as counted}
+use Rattle.rules.specs.Reader.{Discards, each, Reader, Answer, wrap, fresh, complete, heldOf, untaken, did, booked, push, status, bad, answer, joined}
 use Rattle.rules.specs.Demand.{Lawful, ledgerOf, leftOf, Within, answers, Account, Valid, Collected, Demand, CutsDontMatter}
-use Rattle.rules.proofs.Examples.{answered, c90, c95, frame90, f1, f2, f3}
+use Rattle.rules.proofs.Examples.{five, answered, c90, strict95, frame90, f1, f2, f3, echo1}
 
 -- the reader that is left after some chunks
 abbrev left : Config → List ℕ → List (List ℕ) → Reader
@@ -22,13 +22,13 @@ left c first more = answers (fresh c) first more .reader
 -- whoever follows the rules on the whole stream, line by line, has each byte where the reader has it, and the reader's counts
 pub by-hand : CutsDontMatter → (c : Config) → c .wanted ≤ 85 → (first : List ℕ) (more : List (List ℕ)) (ls : List Line) → Lawful c [] (joined (first ∷ more)) ls
     → (spent ls ++ (left c first more .held ++ leftOf c (joined (first ∷ more))) ≡ joined (first ∷ more))
-    × (left c first more .discarded ≡ wrap (discards ls))
+    × (left c first more .discarded ≡ each (λ y. wrap (discardsFor y ls)))
     × (left c first more .cleared ≡ wrap (clears ls))
 by-hand demand c h first more ls law =
     let a = demand c h first more .account in
     let e = a .only ls law in (
       ap (λ (l : List Line). spent l ++ (left c first more .held ++ leftOf c (joined (first ∷ more)))) e ∙ a .bytes,
-      a .discarded ∙ ap (λ (l : List Line). wrap (discards l)) (sym e),
+      a .discarded ∙ ap (λ (l : List Line). each (λ y. wrap (discardsFor y l))) (sym e),
       a .cleared ∙ ap (λ (l : List Line). wrap (clears l)) (sym e),
     )
 
@@ -54,35 +54,35 @@ no-frame-twice demand c h first more =
 abbrev is : ℕ → ℕ → Type 0
 is a b = a ≡ b
 
--- noise, a start byte whose sum is wrong, a frame of another command, then frames 1, 3, 1, 2 and a byte that may begin the next: cut in three
+-- to a strict reader: noise, a start byte whose sum is wrong, a frame of another command, then frames 1, 3, 1, an echo, frame 2 and a byte that may begin the next: cut in three
 abbrev first : List ℕ
 first = 7 ∷ 0xA5 ∷ 0xA5 ∷ 0x01 ∷ []
 
 abbrev more : List (List ℕ)
-more = (0x91 ∷ 0x08 ∷ 0 ∷ 0 ∷ 0 ∷ 0 ∷ 0 ∷ 0 ∷ 0 ∷ 0 ∷ 0x3F ∷ f1 ++ f3) ∷ (f1 ++ f2 ++ (0xA5 ∷ [])) ∷ []
+more = (0x91 ∷ 0x08 ∷ 0 ∷ 0 ∷ 0 ∷ 0 ∷ 0 ∷ 0 ∷ 0 ∷ 0 ∷ 0x3F ∷ f1 ++ f3) ∷ (f1 ++ echo1 ++ f2 ++ (0xA5 ∷ [])) ∷ []
 
 abbrev mixed : Answer
-mixed = answers (fresh c95) first more
+mixed = answers (fresh strict95) first more
 
-abbrev of-mixed : CutsDontMatter → Demand c95 (joined (first ∷ more)) mixed
-of-mixed demand = demand c95 (omega arith) first more
+abbrev of-mixed : CutsDontMatter → Demand strict95 (joined (first ∷ more)) mixed
+of-mixed demand = demand strict95 (omega arith) first more
 
 -- "collected frames, held bytes, last status and all counts at the end are the same" as of the stream in one push
-read-same : CutsDontMatter → (mixed .reader ≡ answered c95 0 0 (f1 ∷ f2 ∷ []) (0xA5 ∷ []) 68 28 1 false .reader) × (mixed .status ≡ 0)
-unfolding answers answer bad status push did run turns look judge restarts sumRight sum total after drops stay booked counted complete heldOf untaken spent joined
+read-same : CutsDontMatter → (mixed .reader ≡ answered strict95 0 0 (f1 ∷ f2 ∷ []) (0xA5 ∷ []) 81 (five 1 1 13 13 13) 1 false .reader) × (mixed .status ≡ 0)
+unfolding answers answer bad status push did run turns look judge restarts sumRight sum total after drops stay booked counted lostFor complete heldOf untaken spent joined
 read-same demand = (of-mixed demand .same, of-mixed demand .status)
 
--- each count by its own rule, and 68 = 1 held + 2 * 13 collected + 28 discarded + 1 * 13 cleared
-read-counts : CutsDontMatter → (mixed .reader .taken ≡ 68) × (mixed .reader .discarded ≡ 28) × (mixed .reader .cleared ≡ 1) × (mixed .reader .taken ≡ 68)
-unfolding answers answer bad status push did run turns look judge restarts sumRight sum total after drops stay booked counted complete heldOf untaken spent joined
-read-counts demand = let a : Account c95 (joined (first ∷ more)) (mixed .reader) = of-mixed demand .account in (a .taken, a .discarded, a .cleared, a .sum)
+-- each count by its own rule, and 81 = 1 held + 2 * 13 collected + 1 + 1 + 13 + 13 + 13 discarded, each for its reason, + 1 * 13 cleared
+read-counts : CutsDontMatter → (mixed .reader .taken ≡ 81) × (mixed .reader .discarded ≡ five 1 1 13 13 13) × (mixed .reader .cleared ≡ 1) × (mixed .reader .taken ≡ 81)
+unfolding answers answer bad status push did run turns look judge restarts sumRight sum total after drops stay booked counted lostFor complete heldOf untaken spent joined
+read-counts demand = let a : Account strict95 (joined (first ∷ more)) (mixed .reader) = of-mixed demand .account in (a .taken, a .discarded, a .cleared, a .sum)
 
 -- "separate 13-byte parts of the stream, .. each valid": its length, A5, sum, command, and its number, which is the frame's place
 read-frames : CutsDontMatter
     → (2 ≤ 3) × is 13 13 × is 0xA5 0xA5 × is 0x45 0x45 × is 0x95 0x95 × (1 < 3 → is 2 2)
-unfolding answers answer bad status push did run turns look judge restarts sumRight sum total after drops stay booked counted complete heldOf untaken spent joined
+unfolding answers answer bad status push did run turns look judge restarts sumRight sum total after drops stay booked counted lostFor complete heldOf untaken spent joined
 read-frames demand =
-    let k : Collected c95 (joined (first ∷ more)) (mixed .reader) = of-mixed demand .collected in
+    let k : Collected strict95 (joined (first ∷ more)) (mixed .reader) = of-mixed demand .collected in
     let v = k .numbered 1 (omega arith) in
     (k .few, v .whole, v .start, v .total, v .command, v .number)
 
@@ -100,7 +100,7 @@ abbrev c95-two : Config
 c95-two = record { command = 0x95; wanted = 2; strict = false }
 
 read-two : CutsDontMatter → (1 < 2 → is 1 1) × is 2 2
-unfolding answers answer bad status push did run turns look judge restarts sumRight sum total after drops stay booked counted complete heldOf untaken spent joined
+unfolding answers answer bad status push did run turns look judge restarts sumRight sum total after drops stay booked counted lostFor complete heldOf untaken spent joined
 read-two demand =
     let k : Collected c95-two (f1 ++ f2) (answers (fresh c95-two) (f1 ++ f2) [] .reader) = demand c95-two (omega arith) (f1 ++ f2) [] .collected in
     (k .numbered 0 (omega arith) .number, k .full refl)
@@ -111,12 +111,12 @@ read-ledger : CutsDontMatter
     × (_≡_ {A = Line} (record { fate = thrown noise; bytes = 7 ∷ []; cleared = 0 }) (record { fate = thrown noise; bytes = 7 ∷ []; cleared = 0 }))
     × (_≡_ {A = Option Fate} none none))
     × (is 1 1 × Unit {0})
-unfolding answers answer bad status push did run turns look judge restarts sumRight sum total after drops stay booked counted complete heldOf untaken spent joined
+unfolding answers answer bad status push did run turns look judge restarts sumRight sum total after drops stay booked counted lostFor complete heldOf untaken spent joined
 read-ledger demand = let a : Account c90 (7 ∷ []) (answers (fresh c90) (7 ∷ []) [] .reader) = demand c90 (omega arith) (7 ∷ []) [] .account in (a .lawful, a .sized)
 
 -- every byte has its place: in the ledger or held; and what comes behind the reply is left
 read-bytes : CutsDontMatter → (_≡_ {A = List ℕ} (7 ∷ 0xA5 ∷ []) (7 ∷ 0xA5 ∷ [])) × (_≡_ {A = List ℕ} (frame90 ++ (1 ∷ 2 ∷ [])) (frame90 ++ (1 ∷ 2 ∷ [])))
-unfolding answers answer bad status push did run turns look judge restarts sumRight sum total after drops stay booked counted complete heldOf untaken spent joined
+unfolding answers answer bad status push did run turns look judge restarts sumRight sum total after drops stay booked counted lostFor complete heldOf untaken spent joined
 read-bytes demand =
     let a : Account c90 (7 ∷ 0xA5 ∷ []) (answers (fresh c90) (7 ∷ 0xA5 ∷ []) [] .reader) = demand c90 (omega arith) (7 ∷ 0xA5 ∷ []) [] .account in
     let b : Account c90 (frame90 ++ (1 ∷ 2 ∷ [])) (answers (fresh c90) (frame90 ++ (1 ∷ 2 ∷ [])) [] .reader) = demand c90 (omega arith) (frame90 ++ (1 ∷ 2 ∷ [])) [] .account in
@@ -125,7 +125,7 @@ read-bytes demand =
 -- "set when .. over 512": not at 512, at 513
 read-mark : CutsDontMatter
     → (answers (fresh c90) (replicate 512 0) [] .reader .mark ≡ false) × (answers (fresh c90) (replicate 513 0) [] .reader .mark ≡ true)
-unfolding answers answer bad status push did run turns look judge restarts sumRight sum total after drops stay booked counted complete heldOf untaken spent joined
+unfolding answers answer bad status push did run turns look judge restarts sumRight sum total after drops stay booked counted lostFor complete heldOf untaken spent joined
 read-mark demand =
     let a : Account c90 (replicate 512 0) (answers (fresh c90) (replicate 512 0) [] .reader) = demand c90 (omega arith) (replicate 512 0) [] .account in
     let b : Account c90 (replicate 513 0) (answers (fresh c90) (replicate 513 0) [] .reader) = demand c90 (omega arith) (replicate 513 0) [] .account in

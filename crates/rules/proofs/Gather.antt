@@ -12,14 +12,15 @@ use lib.Seq.{take-at, drop-at}
 use lib.Dec.{leb, ltb, eqb}
 use borrow.Author.Tests.{ltb-true, le-ltb, lt-ltb, lt-leb, le-leb, eqb-true, eq-eqb}
 use Rattle.wire.specs.Bytes.{byteAt}
-use Rattle.rules.specs.Rules.{Config, collected, sumRight, restarts, judge, look, stay, after, drops, if_then_else_}
-use Rattle.rules.specs.Ledger.{next, Outcome, run, total, discards, clears}
-use Rattle.rules.specs.Reader.{Reader, wrap, complete, fresh, heldOf, untaken, did, booked, push, status, bad, completeness, joined}
+use Rattle.rules.specs.Rules.{Config, Why, noise, wrongSum, wrongCommand, wrongNumber, echo, collected, sumRight, restarts, judge, look, stay, after, drops, if_then_else_}
+use Rattle.rules.specs.Ledger.{next, Outcome, run, total, discards, discardsFor, clears}
+use Rattle.rules.specs.Reader.{each, countOf, Reader, wrap, allOf, complete, fresh, heldOf, untaken, did, booked, push, status, bad, completeness, joined}
 use Rattle.rules.specs.Demand.{Valid, Numbered, answers}
 use Rattle.rules.specs.Gathered.{gathered}
 use Rattle.rules.proofs.Run.{run-stop, run-more}
+use Rattle.rules.proofs.Five.{none-for}
 use Rattle.rules.proofs.Complete.{tests, first, first-none}
-use Rattle.rules.proofs.Good.{Good, Fits, good-fresh, good-push, over-same}
+use Rattle.rules.proofs.Good.{Good, Fits, good-fresh, good-push, over-same, still}
 use Rattle.rules.proofs.Recut.{recuts}
 use Rattle.rules.proofs.Demand.{good-not-bad, answers-good}
 
@@ -184,8 +185,15 @@ pub record Ready (r : Reader) : Type 0 where
   pub empty : r .held ≡ []
   pub wants : length (r .collected) ≤ r .config .wanted - 1
 
+none-yet : (y : Why) → countOf (each (λ z. 0)) y < 4294967296
+none-yet noise = omega arith
+none-yet wrongSum = omega arith
+none-yet wrongCommand = omega arith
+none-yet wrongNumber = omega arith
+none-yet echo = omega arith
+
 pub ready-fresh : (c : Config) → c .wanted ≤ 85 → Ready (fresh c)
-ready-fresh c h = record { good = good-fresh c h; fits = record { taken = omega arith; discarded = omega arith; cleared = omega arith }; empty = refl; wants = omega arith }
+ready-fresh c h = record { good = good-fresh c h; fits = record { taken = omega arith; discarded = none-yet; cleared = omega arith }; empty = refl; wants = omega arith }
 
 module _ (r : Reader) (w : Ready r) (fs : List (List ℕ)) (t : List ℕ) (h : length fs ≡ r .config .wanted) (v : Numbered (r .config) fs) where
   abbrev c : Config
@@ -201,8 +209,9 @@ module _ (r : Reader) (w : Ready r) (fs : List (List ℕ)) (t : List ℕ) (h : l
       let o : Ran c fs (length (r .collected)) t done = run-anew c fs (r .collected) t h (w .wants) v in
       let b : leb (c .wanted) (length fs) ≡ true = le-leb (c .wanted) (length fs) (omega arith) in
       let q : length (joined fs ++ t) - length t ≡ 13 * length fs = omega (arith, length-joined c 0 fs (numbered-on c fs v), length-append (joined fs) t) in
-      let d : wrap (r .discarded + 0) ≡ r .discarded = omega (arith, w .fits .discarded) in
-      let m : r .mark || ltb 512 (r .discarded + 0) ≡ r .mark = over-same (r .mark) (r .discarded) (w .good .marked) in
+      let d : each (λ y. wrap (countOf (r .discarded) y + discardsFor y (done .ledger))) ≡ r .discarded =
+          (λ i. each (λ y. (ap (λ (n : ℕ). wrap (countOf (r .discarded) y + n)) (none-for (done .ledger) (o .lost) y) ∙ still r (w .fits) y) i)) in
+      let m : r .mark || ltb 512 (allOf (r .discarded) + 0) ≡ r .mark = over-same (r .mark) (allOf (r .discarded)) (w .good .marked) in
       rw (w .empty, o .collected, o .rest, o .lost, o .dropped, b, q, d, m)
 
   -- and it is complete

@@ -1,5 +1,6 @@
 pub mod Bools
 pub mod Run
+pub mod Five
 pub mod Recut
 pub mod Account
 pub mod Complete
@@ -9,4 +10,5 @@ pub mod Gather
 pub mod Auditor
 pub mod Restart
 pub mod Examples
+pub mod Reasons
 pub mod Questions

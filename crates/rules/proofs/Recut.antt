@@ -12,9 +12,10 @@ use lib.Dec.{leb, ltb, eqb}
 use borrow.Author.Tests.{ltb-true, ltb-false, lt-ltb, eqb-true, eq-eqb}
 use Rattle.wire.specs.Bytes.{byteAt}
 use Rattle.rules.specs.Rules.{Config, noise, span, Fate, discarded, collected, size, lost, judge, look, after, if_then_else_}
-use Rattle.rules.specs.Ledger.{Line, line, next, Outcome, enter, run, total, discards, clears, spent}
-use Rattle.rules.specs.Reader.{Reader, wrap, complete, heldOf, untaken, took, did, booked, push, joined}
+use Rattle.rules.specs.Ledger.{Line, line, next, Outcome, enter, run, total, discards, lostFor, discardsFor, clears, spent}
+use Rattle.rules.specs.Reader.{Reader, each, countOf, allOf, wrap, complete, heldOf, untaken, took, did, booked, push, joined}
 use Rattle.rules.proofs.Run.{enough, steady, run-stop, run-more, run-ind}
+use Rattle.rules.proofs.Five.{all-on}
 
 -- ---- sums over two ledgers
 
@@ -103,10 +104,17 @@ joins r a b o₁ o₂ o j =
       collected = j .collected i;
       held = j .held i;
       taken = wrap-twice (r .taken) (took (r .config) o₁ a) (took (r .config) o₂ b) (took (r .config) o (a ++ b)) (j .taken) i;
-      discarded = wrap-twice (r .discarded) (discards (o₁ .ledger)) (discards (o₂ .ledger)) (discards (o .ledger)) (j .sums (λ l. lost (l .fate))) i;
+      discarded = each (λ y. wrap-twice (countOf (r .discarded) y) (discardsFor y (o₁ .ledger)) (discardsFor y (o₂ .ledger)) (discardsFor y (o .ledger)) (j .sums (λ l. lostFor y (l .fate))) i);
       cleared = wrap-twice (r .cleared) (clears (o₁ .ledger)) (clears (o₂ .ledger)) (clears (o .ledger)) (j .sums (λ l. l .cleared)) i;
-      mark = over-twice (r .mark) (r .discarded) (discards (o₁ .ledger)) (discards (o₂ .ledger)) (discards (o .ledger)) (j .sums (λ l. lost (l .fate))) i;
+      mark = marked i;
     }
+  where
+    -- the mark reads the sum of the five, which goes on as the one count did
+    marked : (r .mark || ltb 512 (allOf (r .discarded) + discards (o₁ .ledger))) || ltb 512 (allOf (each (λ y. wrap (countOf (r .discarded) y + discardsFor y (o₁ .ledger)))) + discards (o₂ .ledger))
+        ≡ r .mark || ltb 512 (allOf (r .discarded) + discards (o .ledger))
+    marked =
+        ap (λ (n : ℕ). (r .mark || ltb 512 (allOf (r .discarded) + discards (o₁ .ledger))) || ltb 512 (n + discards (o₂ .ledger))) (all-on (r .discarded) (o₁ .ledger))
+        ∙ over-twice (r .mark) (allOf (r .discarded)) (discards (o₁ .ledger)) (discards (o₂ .ledger)) (discards (o .ledger)) (j .sums (λ l. lost (l .fate)))
 
 -- complete: no turn is possible
 pub look-complete : (c : Config) (kept : List (List ℕ)) (p : List ℕ) → complete c kept ≡ true → look c (length kept) p ≡ none

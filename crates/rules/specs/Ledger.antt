@@ -2,8 +2,9 @@
 use Prim.Native.Nat.{ℕ, zero, suc, _+_}
 use mathlib.Core.List.{List, [], _∷_, _++_}
 use mathlib.Core.Option.{Option, none, some}
+use lib.Dec.{eqb}
 use lib.ListN.{length, take, drop}
-use Rattle.rules.specs.Rules.{Config, Fate, size, lost, look, after, drops}
+use Rattle.rules.specs.Rules.{Config, Why, noise, wrongSum, wrongCommand, wrongNumber, echo, span, Fate, discarded, collected, size, lost, look, after, drops, if_then_else_}
 
 -- one line of the ledger: the bytes that a turn cut off, what became of them, and how many frames were dropped at that
 pub record Line : Type 0 where
@@ -54,6 +55,23 @@ total f (l ∷ ls) = f l + total f ls
 -- bytes discarded
 abbrev pub discards : List Line → ℕ
 discards ls = total (λ l. lost (l .fate)) ls
+
+-- the reasons in document 02's order (K3): "bytes before A5, bytes after a wrong sum, wrong command, wrong number, echo"
+abbrev pub place : Why → ℕ
+place noise = 0
+place wrongSum = 1
+place wrongCommand = 2
+place wrongNumber = 3
+place echo = 4
+
+-- how many bytes of a turn count as discarded for the reason y
+unfoldable pub lostFor : Why → Fate → ℕ
+lostFor y (discarded z) = if eqb (place y) (place z) then span z else 0
+lostFor y collected = 0
+
+-- bytes discarded for it
+abbrev pub discardsFor : Why → List Line → ℕ
+discardsFor y ls = total (λ l. lostFor y (l .fate)) ls
 
 -- frames dropped by restarts
 abbrev pub clears : List Line → ℕ

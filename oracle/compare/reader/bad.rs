@@ -94,7 +94,7 @@ pub fn compare_bad(trial: &mut Trial, reader: &Reader, chunk: &[u8]) {
     copies::compare_given(trial, reader);
 }
 
-fn compare_good(trial: &mut Trial, reader: &Reader, chunk: &[u8]) {
+pub fn compare_good(trial: &mut Trial, reader: &Reader, chunk: &[u8]) {
     for way in Way::all(chunk_size(&mut trial.random)) {
         let mut sides = Sides::given(reader).expect("a bad state");
         sides.push(trial, way, chunk);

@@ -5,13 +5,13 @@ use crate::frames::{self, FRAME, START};
 use crate::random::Random;
 
 /// Bytes of which so many are discarded before the next right frame.
-pub type Discarded = fn(&mut Random, Asked, usize) -> Vec<u8>;
+pub type Rule = fn(&mut Random, Asked, usize) -> Vec<u8>;
 
 /// One frame that is discarded.
 pub type Throw = fn(&mut Random, Asked, usize) -> Vec<u8>;
 
 /// In document 01's order the four rules that discard, then all of them.
-pub const RULES: [Discarded; 5] = [
+pub const RULES: [Rule; 5] = [
     before_start,
     wrong_sums,
     other_commands,
@@ -54,7 +54,7 @@ fn other_numbers(random: &mut Random, asked: Asked, count: usize) -> Vec<u8> {
 }
 
 /// One byte goes by the sum, the others since they stand before the next start byte.
-fn wrong_sum(random: &mut Random, asked: Asked, _: usize) -> Vec<u8> {
+pub fn wrong_sum(random: &mut Random, asked: Asked, _: usize) -> Vec<u8> {
     let mut bytes = before_start(random, asked, FRAME);
     bytes[0] = START;
     let sum = frames::sum(&bytes);

@@ -4,6 +4,7 @@ use super::model::MOST_WANTED;
 use super::port::Way;
 use super::sides::Sides;
 use super::streams::{self, cut, Asked, Make};
+use super::told::Discarded;
 use super::OF;
 use crate::frames;
 use crate::random::Random;
@@ -147,10 +148,14 @@ fn every_restart(trial: &mut Trial) {
             let chunks = cut(&mut trial.random, &stream);
             if let Some(sides) = pushed(trial, asked, &chunks) {
                 let counts = sides.ours.counts;
-                let found = [counts.taken, counts.cleared, counts.discarded];
+                let found = [counts.taken, counts.cleared];
                 trial.check(
-                    (wanted, [stream.len(), place, 0].map(|count| count as u32)),
-                    (counts.collected, found),
+                    (
+                        wanted,
+                        [stream.len(), place].map(|count| count as u32),
+                        Discarded::NONE,
+                    ),
+                    (counts.collected, found, counts.discarded),
                     || format!("begun again after {place} of {wanted}"),
                 );
             }

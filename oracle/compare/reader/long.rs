@@ -1,5 +1,5 @@
-//! Streams of more than 2^32 bytes, and a single chunk as long. Not among the parts: they take half a
-//! minute. The counts are worked out by hand.
+//! Streams of more than 2^32 bytes, and a single chunk as long. Not among the parts: they take some
+//! minutes. The counts are worked out by hand.
 
 use super::numbers::{FRAMES, ONE_FRAME, SOC};
 use super::opened;
@@ -11,7 +11,7 @@ use super::OF;
 use crate::told::Flag;
 use crate::trial::{Part, Trial};
 
-pub const PARTS: [Part; 3] = [
+pub const PARTS: [Part; 4] = [
     Part::new(
         OF,
         "more than 2^32 zeros in chunks of 4 MiB, then the frame",
@@ -33,7 +33,19 @@ pub const PARTS: [Part; 3] = [
         one_chunk,
     )
     .of_streams(1),
+    Part::new(
+        OF,
+        "more than 2^32 bytes thrown for all five reasons, strict, then the frames",
+        3_303_825,
+        five,
+    )
+    .of_streams(1),
 ];
+
+/// Bytes that stood before a start byte, and no others.
+const fn noise(count: u32) -> Discarded {
+    Discarded::of([count, 0, 0, 0, 0])
+}
 
 /// The port's last status and its counts are the known ones.
 fn check(trial: &mut Trial, sides: &Sides, status: u8, counts: Counts) {
@@ -67,7 +79,7 @@ fn zeros(trial: &mut Trial) {
     if sides.push(trial, Way::Into, &chunk) && sides.push(trial, Way::Into, &SOC) {
         let complete = Counts {
             taken: 4_194_317,
-            discarded: 4_194_304,
+            discarded: noise(4_194_304),
             collected: 1,
             ..known
         };
@@ -116,7 +128,7 @@ const COMPLETE: Counts = Counts {
     mark: Flag(1),
     strict: Flag(0),
     taken: 107_374_182,
-    discarded: 107_374_169,
+    discarded: noise(107_374_169),
     cleared: 0,
     wanted: 1,
     collected: 1,
@@ -127,7 +139,7 @@ const COMPLETE: Counts = Counts {
 const JUST_OVER: usize = (1 << 32) + 100;
 const WRAPPED: Counts = Counts {
     taken: 100,
-    discarded: 100,
+    discarded: noise(100),
     collected: 0,
     ..COMPLETE
 };
@@ -172,4 +184,54 @@ fn check_after(trial: &mut Trial, after: &After, took: usize, counts: Counts, us
         ),
         || format!("{took} bytes to be taken"),
     );
+}
+
+/// A right frame of 96, and our own question for 95, each without data.
+const OTHER: [u8; 13] = [0xA5, 0x01, 0x96, 0x08, 0, 0, 0, 0, 0, 0, 0, 0, 0x44];
+const ECHO: [u8; 13] = [0xA5, 0x40, 0x95, 0x08, 0, 0, 0, 0, 0, 0, 0, 0, 0x82];
+
+const FIVE: Counts = Counts {
+    command: 0x95,
+    mark: Flag(1),
+    strict: Flag(1),
+    taken: 171_800_074,
+    discarded: Discarded {
+        noise: 39_645_864,
+        sum: 3_303_822,
+        command: 1_304,
+        number: 42_949_686,
+        echo: 85_899_372,
+    },
+    cleared: 0,
+    wanted: 2,
+    collected: 2,
+    held: 0,
+};
+
+/// 100 frames of another command, a frame numbered 3, our question twice, and a start byte with a wrong sum before 12
+/// zeros: 1,352 bytes, 3,303,822 times. Those of another command are 2^32 + 1,304, and all together 2^32 + 171,800,048. For
+/// the Rust the questions are exchanged.
+fn five(trial: &mut Trial) {
+    let [one, two, three] = FRAMES;
+    let mut wrong_sum = [0; 13];
+    wrong_sum[0] = 0xA5;
+    let with = |twice: [u8; 13]| [&[OTHER; 100][..], &[three, twice, twice, wrong_sum]].concat();
+    let [chunk, exchanged] = [ECHO, OTHER].map(|twice| with(twice).concat());
+    trial.streams += 1;
+    let asked = Asked {
+        command: 0x95,
+        size: 26,
+        wanted: 2,
+    };
+    let Some(mut sides) = Sides::opened(trial, asked, true) else {
+        return;
+    };
+    for _ in 0..3_303_822 {
+        if !sides.push_beside(trial, Way::Into, &chunk, &exchanged) {
+            return;
+        }
+    }
+    if sides.push(trial, Way::Into, &[one, two].concat()) {
+        check(trial, &sides, 2, FIVE);
+    }
 }

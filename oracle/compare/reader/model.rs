@@ -1,7 +1,8 @@
-//! Document 01's reader, rule by rule, and document 02's strict mode (K1). The Rust says nothing of bytes taken, frames
-//! cleared, the mark and refusal 8, keeps what comes after completion, and has no strict mode: there this model decides.
+//! Document 01's reader, rule by rule, with document 02's strict mode (K1) and reasons (K3). The Rust says nothing of bytes
+//! taken, frames cleared, the mark and refusal 8, nor why it throws a byte away, keeps what comes after completion, and has
+//! no strict mode: there this model decides.
 
-use super::told::{Counts, Reader, Said};
+use super::told::{Counts, Discarded, Reader, Said};
 use crate::frames::{self, DATA, FRAME, HOST, START};
 
 /// Bytes that may be discarded before the status is 2.
@@ -17,7 +18,7 @@ pub struct Model {
     pub mark: bool,
     pub strict: bool,
     pub taken: u32,
-    pub discarded: u32,
+    pub discarded: Discarded,
     pub cleared: u32,
     /// Whole frames, 13 bytes each.
     pub collected: Vec<u8>,
@@ -38,12 +39,15 @@ pub enum Judged {
 }
 
 impl Judged {
-    fn discarded(self) -> usize {
+    /// The place among the five counts, and how many bytes are thrown away.
+    fn thrown(self) -> Option<(usize, usize)> {
         match self {
-            Self::Noise(count) => count,
-            Self::WrongSum => 1,
-            Self::OtherCommand | Self::Echo | Self::OtherNumber => FRAME,
-            Self::Held | Self::Collected => 0,
+            Self::Noise(count) => Some((0, count)),
+            Self::WrongSum => Some((1, 1)),
+            Self::OtherCommand => Some((2, FRAME)),
+            Self::OtherNumber => Some((3, FRAME)),
+            Self::Echo => Some((4, FRAME)),
+            Self::Held | Self::Collected => None,
         }
     }
 }
@@ -66,7 +70,7 @@ impl Model {
             mark: false,
             strict,
             taken: 0,
-            discarded: 0,
+            discarded: Discarded::NONE,
             cleared: 0,
             collected: Vec::new(),
             held: Vec::new(),
@@ -136,7 +140,7 @@ impl Model {
     pub fn push_seen(&mut self, chunk: &[u8], mut see: impl FnMut(Turn)) -> Said {
         let before = self.held.len();
         self.held.extend_from_slice(chunk);
-        let (mut at, mut discarded) = (0, 0_u64);
+        let (mut at, mut thrown) = (0, [0; 5]);
         while !self.is_complete() {
             let (collected, cleared) = (self.frames(), self.cleared);
             let judged = self.judge(at);
@@ -146,15 +150,15 @@ impl Model {
                 collected,
                 cleared,
             });
-            match judged {
-                Judged::Held => break,
-                Judged::Collected => {
+            match judged.thrown() {
+                Some((why, bytes)) => {
+                    at += bytes;
+                    thrown[why] += bytes as u64;
+                }
+                None if judged == Judged::Held => break,
+                None => {
                     self.collected.extend_from_slice(&self.held[at..at + FRAME]);
                     at += FRAME;
-                }
-                _ => {
-                    at += judged.discarded();
-                    discarded += judged.discarded() as u64;
                 }
             }
         }
@@ -165,7 +169,7 @@ impl Model {
             self.held.drain(..at);
             chunk.len()
         };
-        self.count(took, discarded);
+        self.count(took, thrown);
         let status = self.status();
         Said { status, took }
     }
@@ -208,11 +212,16 @@ impl Model {
         number == self.frames() + 1
     }
 
-    /// Counts wrap, the mark does not.
-    fn count(&mut self, took: usize, discarded: u64) {
-        self.mark |= u64::from(self.discarded) + discarded > MOST_DISCARDED;
+    /// Counts wrap, each by itself, and the mark does not. It is judged by the five together.
+    fn count(&mut self, took: usize, thrown: [u64; 5]) {
+        let before = u64::from(self.discarded.all());
+        self.mark |= before + thrown.iter().sum::<u64>() > MOST_DISCARDED;
         self.taken = self.taken.wrapping_add(took as u32);
-        self.discarded = self.discarded.wrapping_add(discarded as u32);
+        let mut each = self.discarded.each();
+        for (count, thrown) in each.iter_mut().zip(thrown) {
+            *count = count.wrapping_add(thrown as u32);
+        }
+        self.discarded = Discarded::of(each);
     }
 }
 
@@ -228,6 +237,6 @@ pub fn bad_state(reader: &Reader) -> [bool; 6] {
         collected > wanted,
         collected == wanted && held > 0,
         held > 0 && first.is_some_and(|byte| *byte != START),
-        u64::from(counts.discarded) > MOST_DISCARDED && counts.mark.0 == 0,
+        u64::from(counts.discarded.all()) > MOST_DISCARDED && counts.mark.0 == 0,
     ]
 }

@@ -3,7 +3,7 @@
 use super::kinds::way;
 use super::sides::Sides;
 use super::streams::Asked;
-use super::told::Counts;
+use super::told::{Counts, Discarded};
 use crate::told::Flag;
 use crate::trial::{Part, Trial};
 use dalybms_lib::protocol::exposed;
@@ -67,8 +67,9 @@ fn check(trial: &mut Trial, asked: Asked, stream: &[u8], known: &Known) {
             format!("chunks of {size}")
         });
         let rust = exposed::reader_fields(&sides.rust);
+        let discarded = known.counts.discarded.all() as usize;
         trial.check(
-            (true, known.counts.discarded as usize, known.frames, &[][..]),
+            (true, discarded, known.frames, &[][..]),
             (
                 sides.rust.is_complete(),
                 rust.discarded,
@@ -92,7 +93,7 @@ fn begun_again(trial: &mut Trial) {
         mark: Flag(0),
         strict: Flag(0),
         taken: 65,
-        discarded: 0,
+        discarded: Discarded::NONE,
         cleared: 2,
         wanted: 3,
         collected: 3,
@@ -119,7 +120,10 @@ fn zeros(trial: &mut Trial, count: usize, status: u8) {
         mark: Flag(if status == 2 { 1 } else { 0 }),
         strict: Flag(0),
         taken: count as u32 + 13,
-        discarded: count as u32,
+        discarded: Discarded {
+            noise: count as u32,
+            ..Discarded::NONE
+        },
         cleared: 0,
         wanted: 1,
         collected: 1,
@@ -134,14 +138,18 @@ fn zeros(trial: &mut Trial, count: usize, status: u8) {
     check(trial, ONE_FRAME, &stream, &known);
 }
 
-/// `taken 15 held 0 frames 1 discarded 2 cleared 0`.
+/// `taken 15 held 0 frames 1 discarded 2 cleared 0 noise 1 sum 1 command 0 number 0 echo 0`.
 fn example(trial: &mut Trial) {
     let counts = Counts {
         command: 0x90,
         mark: Flag(0),
         strict: Flag(0),
         taken: 15,
-        discarded: 2,
+        discarded: Discarded {
+            noise: 1,
+            sum: 1,
+            ..Discarded::NONE
+        },
         cleared: 0,
         wanted: 1,
         collected: 1,

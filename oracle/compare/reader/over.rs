@@ -19,7 +19,7 @@ pub const PARTS: [Part; 2] = [
     Part::new(OF, "far more than 65,535 discarded", 1_000, far_over).of_streams(5 * 12),
 ];
 
-/// Pushes, then compares the count of discarded bytes, the mark and the status with the known ones.
+/// Pushes, then compares how many bytes were discarded in all, the mark and the status with what is known.
 fn compare(trial: &mut Trial, asked: Asked, chunks: &[&[u8]], count: usize) -> Option<Sides> {
     let mut sides = Sides::new(trial, asked)?;
     for chunk in chunks {
@@ -36,9 +36,10 @@ pub fn check_count(trial: &mut Trial, sides: &Sides, count: usize) -> bool {
     let over = count as u64 > MOST_DISCARDED;
     let status = if over { 2 } else { 0 };
     let counts = sides.ours.counts;
+    let all = trial.port.discarded_all(counts.discarded);
     trial.agrees(
         (count as u32, over.into(), status),
-        (counts.discarded, counts.mark, sides.said.status),
+        (all, counts.mark, sides.said.status),
         || format!("{count} to be discarded {}", sides.ours.shown()),
     )
 }

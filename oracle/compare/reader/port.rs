@@ -27,6 +27,7 @@ extern "C" {
     fn daly_reader_missing(reader: *const Reader) -> MissingTold;
     fn daly_reader_is_complete(reader: *const Reader) -> CompletedTold;
     fn daly_reader_copy_out(reader: *const Reader, out: *mut u8, room: usize) -> ListTold;
+    fn daly_discarded_all(discarded: Discarded) -> u32;
 }
 
 /// The forms of the push.
@@ -172,6 +173,12 @@ impl Port {
     pub fn missing(&mut self, reader: &Reader) -> MissingTold {
         // SAFETY: the reader is alive and nobody writes to it.
         self.answered(unsafe { daly_reader_missing(reader) })
+    }
+
+    /// The one count that the five stand for.
+    pub fn discarded_all(&mut self, discarded: Discarded) -> u32 {
+        // SAFETY: nothing is lent.
+        self.answered(unsafe { daly_discarded_all(discarded) })
     }
 
     pub fn completed(&mut self, reader: &Reader) -> CompletedTold {

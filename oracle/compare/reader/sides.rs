@@ -4,6 +4,7 @@
 use super::model::{Model, MOST_DISCARDED};
 use super::opened;
 use super::port::Way;
+use super::reasons::Reasons;
 use super::streams::Asked;
 use super::told::*;
 use crate::original;
@@ -18,6 +19,8 @@ pub struct Sides {
     pub said: Said,
     pub rust: FrameReader,
     model: Model,
+    /// Why bytes were thrown away, once more.
+    reasons: Reasons,
     /// What the Rust is to have: the held bytes or, once complete, what came behind, which ours leaves with the caller.
     pending: Vec<u8>,
 }
@@ -45,11 +48,14 @@ pub fn shown(bytes: &[u8]) -> String {
 /// Before the first push.
 const NOTHING: Said = Said { status: 0, took: 0 };
 
-/// What the port says after a push.
+/// What the port says after a push. Its five counts are held to the model's, among all counts, and to those that are found
+/// a second time; their sum, as the library adds them up, to the Rust's one count.
 #[derive(Debug, PartialEq)]
 struct Ours {
     said: Said,
     counts: Counts,
+    thrown: Discarded,
+    all: u32,
     missing: MissingTold,
     completed: CompletedTold,
     fence: Difference,
@@ -84,6 +90,7 @@ impl Sides {
             ours,
             said: NOTHING,
             model: Model::new(asked.command, asked.size, strict),
+            reasons: Reasons::new(asked.command, asked.wanted, strict),
             rust: FrameReader::new(&request, asked.size),
             pending: Vec::new(),
         })
@@ -98,18 +105,20 @@ impl Sides {
     pub fn given_beside(reader: &Reader, pending: &[u8]) -> Option<Self> {
         let model = Model::of(reader)?;
         // Marked with a small count: the count has wrapped, the Rust's has not.
-        let wrapped = model.mark && u64::from(model.discarded) <= MOST_DISCARDED;
+        let all = model.discarded.all();
+        let wrapped = model.mark && u64::from(all) <= MOST_DISCARDED;
         let rust = exposed::reader_with(ReaderFields {
             command: model.command,
             n_frames: model.wanted,
             pending,
             frames: &model.collected,
-            discarded: model.discarded as usize + (usize::from(wrapped) << 32),
+            discarded: all as usize + (usize::from(wrapped) << 32),
         });
         Some(Self {
             ours: *reader,
             said: NOTHING,
             model,
+            reasons: Reasons::of(reader),
             rust,
             pending: pending.to_vec(),
         })
@@ -130,6 +139,7 @@ impl Sides {
     ) -> bool {
         let after = trial.port.push(way, &self.ours, chunk);
         let said = self.model.push(chunk);
+        self.reasons.push(chunk);
         let number = original::number(&self.rust.push(exchanged));
         self.keep(exchanged, said.took);
         let found = (self.found(trial, &after), self.theirs(number));
@@ -165,6 +175,8 @@ impl Sides {
         Ours {
             said,
             counts: self.model.counts(),
+            thrown: self.reasons.thrown,
+            all: exposed::reader_fields(&self.rust).discarded as u32,
             missing: MissingTold {
                 number: 0,
                 missing: self.model.missing(),
@@ -184,6 +196,8 @@ impl Sides {
         Ours {
             said: after.said,
             counts: reader.counts,
+            thrown: reader.counts.discarded,
+            all: trial.port.discarded_all(reader.counts.discarded),
             missing: trial.port.missing(reader),
             completed: trial.port.completed(reader),
             fence: difference(&FENCE, &after.fence),
@@ -197,7 +211,7 @@ impl Sides {
             number: self.model.status(),
             command: self.model.command,
             wanted: self.model.wanted,
-            discarded: self.model.discarded,
+            discarded: self.model.discarded.all(),
             missing: self.model.missing(),
             complete: self.model.is_complete(),
             collected: None,

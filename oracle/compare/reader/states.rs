@@ -2,7 +2,7 @@
 
 use super::model::MOST_WANTED;
 use super::streams::{self, Asked};
-use super::told::{Counts, Reader};
+use super::told::{Counts, Discarded, Reader};
 use crate::frames::{FRAME, LONGEST, START};
 use crate::random::Random;
 use crate::told::Flag;
@@ -53,19 +53,43 @@ fn drawn(random: &mut Random, asked: Asked) -> Reader {
     let mut reader = Reader::ZERO;
     random.fill(&mut reader.frames);
     let mark = random.below(2) == 1;
+    let taken = random.word();
+    let all = match mark {
+        true => random.word() >> random.below(32),
+        false => random.below(513) as u32,
+    };
     reader.counts = Counts {
         command: asked.command,
         mark: mark.into(),
-        taken: random.word(),
-        discarded: match mark {
-            true => random.word() >> random.below(32),
-            false => random.below(513) as u32,
-        },
+        taken,
+        discarded: split(random.aside(), all),
         cleared: random.word(),
         wanted: asked.wanted,
         ..Counts::ZERO
     };
     reader
+}
+
+/// Five counts that stand for this one: all in one of them, in smaller parts, or so large that their sum wraps.
+pub fn split(mut random: Random, all: u32) -> Discarded {
+    let mut counts = [0; 5];
+    match random.below(4) {
+        0 => {}
+        1 => {
+            let mut rest = all as usize;
+            for count in &mut counts {
+                let part = random.below(rest + 1);
+                *count = part as u32;
+                rest -= part;
+            }
+        }
+        2 => counts.fill_with(|| random.word()),
+        _ => counts.fill_with(|| u32::MAX - random.below(600) as u32),
+    }
+    let last = random.below(counts.len());
+    counts[last] = 0;
+    counts[last] = all.wrapping_sub(Discarded::of(counts).all());
+    Discarded::of(counts)
 }
 
 /// A good state in which frames are still wanted, with bytes held.
@@ -152,11 +176,12 @@ fn put_first_held(reader: &mut Reader, byte: u8) {
 
 fn discarded_without_mark(random: &mut Random, reader: &mut Reader) {
     reader.counts.mark = Flag(0);
-    reader.counts.discarded = match random.below(3) {
+    let all = match random.below(3) {
         0 => 513,
         1 => u32::MAX - random.below(600) as u32,
         _ => random.word().max(513),
     };
+    reader.counts.discarded = split(random.aside(), all);
 }
 
 /// Makes one kind of bad state.
@@ -177,12 +202,12 @@ pub const NEIGHBOURS: [Harm; 7] = [
         reader.counts.held = 0;
     },
     |_, reader| reader.counts.held = 1,
-    |_, reader| {
+    |random, reader| {
         reader.counts.mark = Flag(0);
-        reader.counts.discarded = 512;
+        reader.counts.discarded = split(random.aside(), 512);
     },
-    |_, reader| {
+    |random, reader| {
         reader.counts.mark = Flag(1);
-        reader.counts.discarded = 513;
+        reader.counts.discarded = split(random.aside(), 513);
     },
 ];

@@ -158,7 +158,7 @@ fn strictly(trial: &mut Trial, asked: Asked, stream: &[u8]) -> Exchanged {
 }
 
 /// The lengths of the chunks.
-fn cut_anyhow(random: &mut Random, stream: &[u8]) -> Vec<usize> {
+pub fn cut_anyhow(random: &mut Random, stream: &[u8]) -> Vec<usize> {
     cut(random, stream).into_iter().map(<[u8]>::len).collect()
 }
 
@@ -175,7 +175,7 @@ fn pushed(
 }
 
 /// Both streams, cut alike.
-fn push_all(
+pub fn push_all(
     trial: &mut Trial,
     sides: &mut Sides,
     stream: &[u8],
@@ -201,6 +201,7 @@ fn ends_alike(trial: &mut Trial, sides: &Sides, stream: &[u8]) -> bool {
         false => rust.pending,
     };
     let counts = ours.counts;
+    let all = trial.port.discarded_all(counts.discarded);
     trial.agrees(
         (
             rust.command,
@@ -211,7 +212,7 @@ fn ends_alike(trial: &mut Trial, sides: &Sides, stream: &[u8]) -> bool {
         (
             counts.command,
             counts.wanted,
-            counts.discarded,
+            all,
             [
                 difference(rust.frames, ours.collected()),
                 difference(held, ours.held()),

@@ -2,9 +2,21 @@
 
 use crate::frames::{FRAME, LONGEST};
 use crate::told::{Answer, Flag};
+use std::mem::offset_of;
 
 /// The bytes on either side of what is lent, one half before and one behind.
 pub const FENCE: [u8; 32] = *b"not ours to write, nor to read!!";
+
+/// Why bytes were thrown away (document 02, K3), in its order.
+#[derive(Clone, Copy, Debug, PartialEq)]
+#[repr(C)]
+pub struct Discarded {
+    pub noise: u32,
+    pub sum: u32,
+    pub command: u32,
+    pub number: u32,
+    pub echo: u32,
+}
 
 #[derive(Clone, Copy, Debug, PartialEq)]
 #[repr(C)]
@@ -13,7 +25,7 @@ pub struct Counts {
     pub mark: Flag,
     pub strict: Flag,
     pub taken: u32,
-    pub discarded: u32,
+    pub discarded: Discarded,
     pub cleared: u32,
     pub wanted: usize,
     pub collected: usize,
@@ -36,7 +48,7 @@ impl Reader {
             mark: Flag(1),
             strict: (!strict).into(),
             taken: !0,
-            discarded: !0,
+            discarded: Discarded::of([!0; 5]),
             cleared: !0,
             wanted: !0,
             collected: !0,
@@ -90,11 +102,44 @@ pub struct After {
     pub fence: [u8; FENCE.len()],
 }
 
-const _: () = assert!(size_of::<Counts>() == 40 && size_of::<Reader>() == 1152);
+const _: () = assert!(size_of::<Discarded>() == 20);
+const _: () = assert!(offset_of!(Counts, discarded) == 8 && offset_of!(Counts, cleared) == 28);
+const _: () = assert!(offset_of!(Counts, wanted) == 32 && size_of::<Counts>() == 56);
+const _: () = assert!(offset_of!(Reader, frames) == 56 && size_of::<Reader>() == 1168);
 
 impl Said {
     /// Document 01's 8: a bad state.
     pub const REFUSED: Self = Self { status: 8, took: 0 };
+}
+
+impl Discarded {
+    pub const NONE: Self = Self::of([0; 5]);
+
+    pub const fn of([noise, sum, command, number, echo]: [u32; 5]) -> Self {
+        Self {
+            noise,
+            sum,
+            command,
+            number,
+            echo,
+        }
+    }
+
+    pub fn each(self) -> [u32; 5] {
+        let Self {
+            noise,
+            sum,
+            command,
+            number,
+            echo,
+        } = self;
+        [noise, sum, command, number, echo]
+    }
+
+    /// "their sum modulo 2^32 is the old count"
+    pub fn all(self) -> u32 {
+        self.each().into_iter().fold(0, u32::wrapping_add)
+    }
 }
 
 impl Counts {
@@ -103,7 +148,7 @@ impl Counts {
         mark: Flag(0),
         strict: Flag(0),
         taken: 0,
-        discarded: 0,
+        discarded: Discarded::NONE,
         cleared: 0,
         wanted: 0,
         collected: 0,
@@ -167,12 +212,16 @@ impl Answer for Toggled<'_> {
 /// so are all the frames' bytes together. Of those only the compared ones are spoiled.
 fn flip_one(others: &mut [&mut dyn Answer], reader: &mut Reader, compared: usize, bit: usize) {
     let counts = &mut reader.counts;
-    let fields: [&mut dyn Answer; 9] = [
+    let fields: [&mut dyn Answer; 13] = [
         &mut counts.command,
         &mut Toggled(&mut counts.mark),
         &mut Toggled(&mut counts.strict),
         &mut counts.taken,
-        &mut counts.discarded,
+        &mut counts.discarded.noise,
+        &mut counts.discarded.sum,
+        &mut counts.discarded.command,
+        &mut counts.discarded.number,
+        &mut counts.discarded.echo,
         &mut counts.cleared,
         &mut counts.wanted,
         &mut counts.collected,

@@ -6,7 +6,7 @@ use super::model::MOST_WANTED;
 use super::sides::Sides;
 use super::states;
 use super::streams::{self, cut, Asked};
-use super::told::{Counts, Reader};
+use super::told::{Counts, Discarded, Reader};
 use super::OF;
 use crate::frames::FRAME;
 use crate::random::Random;
@@ -29,13 +29,24 @@ fn near_the_end(random: &mut Random, within: usize) -> u32 {
     u32::MAX - random.below(within) as u32
 }
 
-/// Every other round the discarded bytes are few and not marked, and only the other counts wrap.
+/// Each of the five counts soon wraps.
+fn five_near_the_end(random: &mut Random) -> Discarded {
+    let noise = near_the_end(random, 60);
+    let mut others = random.aside();
+    let mut next = || near_the_end(&mut others, 60);
+    Discarded::of([noise, next(), next(), next(), next()])
+}
+
+/// Every other round the discarded bytes are few and not marked, and only the other counts wrap, or their sum has.
 pub fn wrap_soon(random: &mut Random, counts: &mut Counts, round: u64) {
     counts.taken = near_the_end(random, 60);
     counts.cleared = near_the_end(random, 3);
     (counts.mark, counts.discarded) = match round % 2 {
-        0 => (Flag(1), near_the_end(random, 60)),
-        _ => (Flag(0), random.below(400) as u32),
+        0 => (Flag(1), five_near_the_end(random)),
+        _ => {
+            let few = random.below(400) as u32;
+            (Flag(0), states::split(random.aside(), few))
+        }
     };
 }
 
@@ -55,7 +66,8 @@ fn soon(trial: &mut Trial) {
     }
 }
 
-/// Noise, then frame 1 to a reader that has frames: all three counts reach the same number.
+/// Noise, then frame 1 to a reader that has frames: the bytes taken, those discarded and the frames cleared reach the same
+/// number. Of the five counts noise alone goes on.
 fn to_numbers(trial: &mut Trial) {
     for target in [0, 1, 512, 513] {
         for _ in 0..trial.rounds(2_000) {
@@ -65,10 +77,17 @@ fn to_numbers(trial: &mut Trial) {
             let way = way(&mut trial.random);
             if sides.push(trial, way, &stream) {
                 let counts = sides.ours.counts;
-                let found = [counts.taken, counts.discarded, counts.cleared];
+                let all = trial.port.discarded_all(counts.discarded);
+                let before = reader.counts.discarded;
+                let noise = before.noise.wrapping_add((stream.len() - FRAME) as u32);
                 trial.check(
-                    (2, Flag(1), [target; 3]),
-                    (sides.said.status, counts.mark, found),
+                    (2, Flag(1), [target; 3], Discarded { noise, ..before }),
+                    (
+                        sides.said.status,
+                        counts.mark,
+                        [counts.taken, all, counts.cleared],
+                        counts.discarded,
+                    ),
                     || reader.shown(),
                 );
             }
@@ -92,7 +111,7 @@ fn wrapping_to(random: &mut Random, target: u32) -> (Reader, Vec<u8>) {
     reader.counts = Counts {
         mark: Flag(1),
         taken: before(stream.len()),
-        discarded: before(length),
+        discarded: states::split(random.aside(), before(length)),
         cleared: before(collected),
         held: 0,
         ..reader.counts

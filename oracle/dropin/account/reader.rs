@@ -1,19 +1,22 @@
-//! A reader's account, and what a push took, beside the model of the reader's rules.
+//! A reader's account and counts, and what a push took, beside the model of the reader's rules and the Rust's reader.
 
 use super::whole;
 use crate::answer::{Answer, Value};
 use crate::frames::{self, FRAME};
 use crate::question::Question;
+use crate::reader::exchange::exchange;
 use crate::reader::model::Model;
 use crate::readers::KINDS;
 use crate::streams::{self, Asked};
 use crate::trial::Trial;
+use daly::account::Discarded;
 use daly::protocol::FrameReader;
 use daly::Error;
+use dalybms_lib::protocol::{exposed, FrameReader as Rust};
 
-/// The reader's account, and whether its parts make up what was taken.
+/// The reader's account, and whether its parts make up what was taken; and its counts, with document 02's five (K3).
 fn accounted(reader: &FrameReader) -> Vec<Value> {
-    let account = reader.account();
+    let (account, counts) = (reader.account(), reader.counts());
     let frames = (account.collected as u32).wrapping_add(account.cleared);
     let bytes = (account.held as u32).wrapping_add(account.discarded);
     vec![
@@ -27,13 +30,24 @@ fn accounted(reader: &FrameReader) -> Vec<Value> {
         Value::Flag(account.taken == frames.wrapping_mul(13).wrapping_add(bytes)),
         Value::Flag(reader.is_complete()),
         Value::Whole(reader.missing() as i64),
+        whole(counts.taken),
+        whole(counts.cleared),
+        whole(counts.discarded.noise),
+        whole(counts.discarded.sum),
+        whole(counts.discarded.command),
+        whole(counts.discarded.number),
+        whole(counts.discarded.echo),
+        whole(counts.discarded.all()),
     ]
 }
 
-fn modelled(model: &Model) -> Vec<Value> {
+/// How many bytes were discarded in all the Rust decides, and about the rest the model.
+fn wanted_of(model: &Model, rust: &Rust) -> Vec<Value> {
+    let all = whole(exposed::reader_fields(rust).discarded as u32);
+    let thrown = model.discarded;
     vec![
         whole(model.taken),
-        whole(model.discarded),
+        all.clone(),
         whole(model.cleared),
         Value::Whole(model.wanted as i64),
         Value::Whole((model.collected.len() / FRAME) as i64),
@@ -42,7 +56,37 @@ fn modelled(model: &Model) -> Vec<Value> {
         Value::Flag(true),
         Value::Flag(model.is_complete()),
         Value::Whole(model.missing() as i64),
+        whole(model.taken),
+        whole(model.cleared),
+        whole(thrown.noise),
+        whole(thrown.sum),
+        whole(thrown.command),
+        whole(thrown.number),
+        whole(thrown.echo),
+        all,
     ]
+}
+
+/// `Discarded::all` of any five counts.
+pub fn sums(trial: &mut Trial) {
+    for _ in 0..trial.rounds(5_000) {
+        let five = [(); 5].map(|()| trial.random.word() >> trial.random.below(32));
+        let [noise, sum, command, number, echo] = five;
+        let discarded = Discarded {
+            noise,
+            sum,
+            command,
+            number,
+            echo,
+        };
+        let wanted = five.map(u64::from).iter().sum::<u64>() % (1 << 32);
+        let found = Answer::Values(vec![whole(discarded.all())]);
+        trial.judge(
+            &Answer::Values(vec![Value::Whole(wanted as i64)]),
+            found,
+            &five,
+        );
+    }
 }
 
 pub fn readers(trial: &mut Trial) {
@@ -57,7 +101,7 @@ pub fn readers(trial: &mut Trial) {
     }
 }
 
-/// The whole stream, cut at random, into a reader and into the model.
+/// The whole stream, cut at random, into a reader and into the model, and into the Rust's with its echoes exchanged.
 pub fn push(trial: &mut Trial, asked: Asked, stream: &[u8], strict: bool) {
     let request = asked.request(&mut trial.random);
     let mut reader = match strict {
@@ -65,13 +109,19 @@ pub fn push(trial: &mut Trial, asked: Asked, stream: &[u8], strict: bool) {
         false => FrameReader::new(&request, asked.size),
     };
     let mut model = Model::new(asked.command, asked.size, strict);
-    let (mut wanted, mut found) = (modelled(&model), accounted(&reader));
+    let mut rust = Rust::new(&request, asked.size);
+    let exchanged = exchange(&mut trial.random.aside(), model.clone(), stream).bytes;
+    let mut beside = &exchanged[..];
+    let (mut wanted, mut found) = (wanted_of(&model, &rust), accounted(&reader));
     let chunks = streams::cut(&mut trial.random, stream);
     let lengths: Vec<usize> = chunks.iter().map(|chunk| chunk.len()).collect();
     for chunk in chunks {
         let said = model.push(chunk);
+        let (theirs, behind) = beside.split_at(chunk.len());
+        beside = behind;
+        let _ = rust.push(theirs);
         wanted.extend([Value::Whole(said.took as i64), whole(said.status)]);
-        wanted.extend(modelled(&model));
+        wanted.extend(wanted_of(&model, &rust));
         let pushed = reader.push_counted(chunk);
         let number = pushed.said.map_or_else(Error::number, |()| 0);
         found.extend([Value::Whole(pushed.took as i64), whole(number)]);
@@ -101,6 +151,7 @@ pub fn refused(trial: &mut Trial, new: New) {
             wanted.extend(vec![whole(0); 6]);
             wanted.extend([Value::Flag(false), Value::Flag(true)]);
             wanted.extend([Value::Flag(false), whole(13)]);
+            wanted.extend(vec![whole(0); 8]);
             let question = (request, size);
             trial.judge(&Answer::Values(wanted), Answer::Values(found), &question);
         }

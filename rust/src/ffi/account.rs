@@ -1,6 +1,6 @@
 //! The calls that serve `crate::account`.
 
-use super::told::{CellVoltageRangeCounts, List, MosfetStatusCounts, Pack, SocCounts};
+use super::told::{CellVoltageRangeCounts, Discarded, List, MosfetStatusCounts, Pack, SocCounts};
 use super::{list, record};
 use crate::Error;
 
@@ -18,6 +18,7 @@ extern "C" {
         room: usize,
     ) -> List;
     fn daly_pack_check(cells: *const u16, n_cells: usize, total_voltage: u16) -> Pack;
+    fn daly_discarded_all(discarded: Discarded) -> u32;
 }
 
 pub fn calc_crc(buffer: &[u8]) -> u8 {
@@ -51,4 +52,9 @@ pub fn pack_check(cells: &[u16], total_voltage: u16) -> Result<Pack, Error> {
     // SAFETY: as in `super::check`, of cells.
     let told = unsafe { daly_pack_check(cells.as_ptr(), cells.len(), total_voltage) };
     Error::check(told.number).map(|()| told)
+}
+
+pub fn discarded_all(discarded: Discarded) -> u32 {
+    // SAFETY: nothing is lent.
+    unsafe { daly_discarded_all(discarded) }
 }

@@ -33,7 +33,7 @@ impl Reader {
     }
 
     /// A reader with nothing in its frames: what the library makes of these counts, made anew where it is to lie.
-    /// They have the two zeros already: naming them keeps rustc from copying 1,152 bytes.
+    /// They have the two zeros already: naming them keeps rustc from copying 1,168 bytes.
     #[inline]
     pub const fn empty(counts: Counts) -> Self {
         Self {

@@ -102,6 +102,24 @@ pub struct Pack {
     pub difference: i32,
 }
 
+/// Why bytes were discarded: how many for each reason, modulo 2^32. `dalybms_lib` has their sum alone.
+///
+/// A bad cable shows as noise and wrong sums, a second master as frames of another command.
+#[derive(Clone, Copy, Debug, Default, PartialEq, Eq)]
+#[repr(C)]
+pub struct Discarded {
+    /// Bytes before a start byte, A5.
+    pub noise: u32,
+    /// Wrong sums, one byte each time: what follows it, up to the next start byte, is noise.
+    pub sum: u32,
+    /// Right frames of another command, 13 bytes each.
+    pub command: u32,
+    /// Frames whose number is not the next, nor 1, 13 bytes each.
+    pub number: u32,
+    /// Echoes, by a strict reader, 13 bytes each. Of any other reader 0: it collects an echo, or finds its number wrong.
+    pub echo: u32,
+}
+
 #[derive(Clone, Copy, Debug)]
 #[repr(C)]
 pub struct Counts {
@@ -109,7 +127,7 @@ pub struct Counts {
     pub mark: u8,
     pub strict: u8,
     pub taken: u32,
-    pub discarded: u32,
+    pub discarded: Discarded,
     pub cleared: u32,
     pub wanted: usize,
     pub collected: usize,

@@ -1,6 +1,6 @@
 //! The reader that finds the frames of a reply on the line.
 
-use crate::account::{Account, Pushed};
+use crate::account::{Account, Counts, Pushed};
 use crate::{ffi, Error};
 use std::fmt::{self, Debug, Formatter};
 
@@ -36,7 +36,7 @@ impl FrameReader {
     /// As [`FrameReader::new`], for two-wire lines: a reader in strict mode. `dalybms_lib` has no such reader.
     ///
     /// It discards an echo whole: a right frame of the command with the host's address, 40 hexadecimal, in byte 1.
-    /// The 13 bytes count as discarded, also among the 512. The echo's number is not read, so one that is numbered 1
+    /// The 13 bytes count as discarded, as `echo`, also among the 512. The echo's number is not read, so one that is numbered 1
     /// does not begin the reply again.
     ///
     /// ```
@@ -119,6 +119,29 @@ impl FrameReader {
     /// What became of the bytes so far. `dalybms_lib` has no such question.
     pub fn account(&self) -> Account {
         Account::of(&self.reader.counts)
+    }
+
+    /// What was counted so far, and why bytes were thrown away. `dalybms_lib` has no such question.
+    ///
+    /// ```
+    /// use daly::account::Discarded;
+    /// use daly::protocol::{Address, FrameReader, Soc};
+    ///
+    /// // What we sent, a byte of noise, a start byte too many, and then the reply.
+    /// let request = Soc::request(Address::Host);
+    /// let reply = [0xA5, 0x01, 0x90, 0x08, 0x02, 0x0B, 0x00, 0x00, 0x74, 0xB7, 0x03, 0x6A, 0xE3];
+    /// let line = [&request[..], &[0x00, 0xA5], &reply[..]].concat();
+    ///
+    /// let mut reader = FrameReader::new_strict(&request, Soc::reply_size());
+    /// reader.push(&line)?;
+    /// let counts = reader.counts();
+    /// assert_eq!((counts.taken, counts.cleared), (28, 0));
+    /// assert_eq!(counts.discarded, Discarded { noise: 1, sum: 1, echo: 13, ..Discarded::default() });
+    /// assert_eq!(counts.discarded.all(), reader.account().discarded);
+    /// # Ok::<(), daly::Error>(())
+    /// ```
+    pub fn counts(&self) -> Counts {
+        Counts::of(&self.reader.counts)
     }
 
     /// The frames, one after the other, complete or not.

@@ -3,10 +3,10 @@
 
 use super::super::exchange::Exchanged;
 use super::super::model::{Judged, Model, Turn, MOST_WANTED};
+use super::super::saw_enough;
 use super::OF;
 use crate::frames::{self, DATA, FRAME, HOST, START};
-use crate::trial::{verdict, Outcome, Seen, Trial};
-use std::ops::RangeInclusive;
+use crate::trial::{Outcome, Trial};
 
 pub const BYTE_BY_BYTE: &str = "streams pushed byte by byte as well";
 pub const HELD_ALREADY: &str = "readers given by hand that hold the beginning of an echo";
@@ -171,29 +171,7 @@ pub fn note(trial: &mut Trial, wanted: usize, stream: &[u8], exchanged: &Exchang
     }
 }
 
-/// Whether there were so many for each number.
-fn is_enough(
-    seen: &[&Seen],
-    what: &'static str,
-    numbers: RangeInclusive<usize>,
-    least: u64,
-) -> bool {
-    let of = |number| {
-        seen.iter()
-            .filter_map(|seen| seen.get(&(what, number)))
-            .sum::<u64>()
-    };
-    let fewest = numbers.map(of).min().unwrap_or(0);
-    let enough = fewest >= least;
-    println!(
-        "{} {OF}, {what}: {fewest} (at least {least})",
-        verdict(enough)
-    );
-    enough
-}
-
 pub fn all(outcomes: &[Outcome]) -> Vec<bool> {
-    let seen: Vec<&Seen> = outcomes.iter().map(|outcome| &outcome.seen).collect();
     let turns = TURNS.iter().map(|(what, least, _)| (*what, *least));
     let ends = ENDS.iter().map(|(what, least, _)| (*what, *least));
     let single = [
@@ -206,9 +184,9 @@ pub fn all(outcomes: &[Outcome]) -> Vec<bool> {
         .into_iter()
         .chain(turns)
         .chain(ends)
-        .map(|(what, least)| is_enough(&seen, what, 0..=0, least))
+        .map(|(what, least)| saw_enough(OF, outcomes, what, 0..=0, least))
         .collect();
-    passed.push(is_enough(&seen, WANTED, 1..=MOST_WANTED, 5));
-    passed.push(is_enough(&seen, COMMANDS, 0..=255, 50));
+    passed.push(saw_enough(OF, outcomes, WANTED, 1..=MOST_WANTED, 5));
+    passed.push(saw_enough(OF, outcomes, COMMANDS, 0..=255, 50));
     passed
 }

@@ -5,7 +5,7 @@ use super::super::model::Model;
 use super::super::numbers::{FRAMES, ONE_FRAME, SOC};
 use super::super::sides::Sides;
 use super::super::streams::Asked;
-use super::super::told::Counts;
+use super::super::told::{Counts, Discarded};
 use super::{push_all, OF};
 use crate::trial::{Part, Trial};
 
@@ -49,10 +49,24 @@ const QUESTION: [u8; 13] = [0xA5, 0x40, 0x90, 0x08, 0, 0, 0, 0, 0, 0, 0, 0, 0x7D
 #[derive(Clone, Copy)]
 struct Known<'a> {
     taken: u32,
-    discarded: u32,
+    discarded: Discarded,
     cleared: u32,
     frames: &'a [u8],
 }
+
+/// The bytes of one frame.
+const OTHER_COMMAND: Discarded = Discarded {
+    command: 13,
+    ..Discarded::NONE
+};
+const OTHER_NUMBER: Discarded = Discarded {
+    number: 13,
+    ..Discarded::NONE
+};
+const ECHO: Discarded = Discarded {
+    echo: 13,
+    ..Discarded::NONE
+};
 
 /// In chunks of every size, each to a reader of its own.
 fn check(trial: &mut Trial, asked: Asked, stream: &[u8], strict: bool, known: Known) {
@@ -93,13 +107,13 @@ fn both(trial: &mut Trial, asked: Asked, stream: &[u8], known: [Known; 2]) {
 fn asked_and_told(trial: &mut Trial) {
     let echoed = Known {
         taken: 13,
-        discarded: 0,
+        discarded: Discarded::NONE,
         cleared: 0,
         frames: &QUESTION,
     };
     let told = Known {
         taken: 26,
-        discarded: 13,
+        discarded: ECHO,
         frames: &SOC,
         ..echoed
     };
@@ -118,11 +132,12 @@ fn numbered_1(trial: &mut Trial) {
     };
     let dropped = Known {
         taken: 52,
-        discarded: 13,
+        discarded: OTHER_NUMBER,
         cleared: 2,
         frames: &echo,
     };
     let complete = Known {
+        discarded: ECHO,
         cleared: 0,
         frames: &FRAMES.concat(),
         ..dropped
@@ -137,13 +152,13 @@ fn start_bytes(trial: &mut Trial) {
     echo[1..4].copy_from_slice(&[0x40, 0x90, 0x08]);
     let echoed = Known {
         taken: 13,
-        discarded: 0,
+        discarded: Discarded::NONE,
         cleared: 0,
         frames: &echo,
     };
     let thrown = Known {
         taken: 26,
-        discarded: 13,
+        discarded: ECHO,
         frames: &SOC,
         ..echoed
     };
@@ -158,7 +173,7 @@ fn other_command(trial: &mut Trial) {
     question[12] = 0x7E;
     let known = Known {
         taken: 26,
-        discarded: 13,
+        discarded: OTHER_COMMAND,
         cleared: 0,
         frames: &SOC,
     };
@@ -170,7 +185,11 @@ fn other_command(trial: &mut Trial) {
 fn cut_off(trial: &mut Trial) {
     let known = Known {
         taken: 21,
-        discarded: 8,
+        discarded: Discarded {
+            noise: 7,
+            sum: 1,
+            ..Discarded::NONE
+        },
         cleared: 0,
         frames: &SOC,
     };

@@ -15,8 +15,8 @@ direct-requires c κs = search needs
 
 returns : tie.Need-returns
 returns c =
-    let a = c .before .before .before .before .args in
-    rw (none-held (a .held) (drop (13 * a .collected) (a .frames .now)) (a .chunk .now) (c .before .before .if1 .taken)) (c .direct .ensures .0)
+    let a = c .before .before .before .before .before .args in
+    rw (none-held (a .held) (drop (13 * a .collected) (a .frames .now)) (a .chunk .now) (c .before .before .before .if1 .taken)) (c .direct .ensures .0)
 
 sub-if2 : tie.Need-sub-if2
 sub-if2 c = search needs
@@ -35,8 +35,8 @@ copy-requires c κs =
     let z = s .pre .3 (omega (arith, e .if1 .left)) in
     (omega (arith, z, s .pre .1, c .before .if2 .taken), omega arith)
 
-add-t16 : tie.Need-add-t16
-add-t16 c = search needs
+add-t17 : tie.Need-add-t17
+add-t17 c = search needs
 
 returns-2 : tie.Need-returns-2
 returns-2 c =
@@ -47,14 +47,14 @@ returns-2 c =
     let b : a .held + length (a .chunk .now) ≤ 12 = omega (arith, c .before .before .if2 .taken) in
     let g = held-more (a .frames .now) (a .chunk .now) (a .collected) (a .held) (omega (arith, s .pre .3 z, s .pre .1)) b in
     rw (c .copy .ensures)
-    (moves-append (config (a .command) (a .wanted) (a .strict)) (a .collected) (a .count) (a .frames .now) (paste (a .frames .now) (13 * a .collected + a .held) (a .chunk .now) (length (a .chunk .now))) (a .chunk .now)
-    (a .held) (a .held + length (a .chunk .now)) (s .pre .3 z) z b (s .pre .4 z) (omega arith) (g .0) (g .1))
+    (moves-append (config (a .command) (a .wanted) (a .strict)) (a .collected) (a .tally .now) (a .frames .now) (paste (a .frames .now) (13 * a .collected + a .held) (a .chunk .now) (length (a .chunk .now))) (a .chunk .now)
+    (a .held) (a .held + length (a .chunk .now)) (s .pre .5) (s .pre .3 z) z b (s .pre .4 z) (g .0) (g .1))
 
 bridged-requires : tie.Need-bridged-requires
 bridged-requires c κs =
-    let e = c .before .before in
+    let e = c .before .before .before in
     let s = e .before .before in
-    (s .pre .0, s .pre .3 (omega (arith, e .if1 .left)), s .pre .1)
+    (s .pre .0, s .pre .3 (omega (arith, e .if1 .left)), s .pre .1, s .pre .5)
 
 returns-3 : tie.Need-returns-3
 returns-3 c = c .bridged .ensures
@@ -69,7 +69,7 @@ advance-spec =
     mul-copy
     add-copy
     copy-requires
-    add-t16
+    add-t17
     returns-2
     bridged-requires
     returns-3)

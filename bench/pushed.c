@@ -111,7 +111,7 @@ int main(int argc, char **argv)
             put_stream(argv[1]);
             if (run(&streams[i], (size_t)atol(argv[2]), argc > 3 ? atol(argv[3]) : 0))
                 return 0;
-            fprintf(stderr, "daly.h is not the library's, or the stream is not taken whole\n");
+            fprintf(stderr, "the stream is not taken whole: is daly.h the one that the archive was made with?\n");
         }
     }
     return argc >= 3;

@@ -287,7 +287,7 @@ struct daly_counts {
  * next frame then still needs, as daly_reader_missing does of a new reader, and that is 0 when and only when the
  * reader is complete or bad. While it is more, read at most so many bytes and push them; examples/controller.c
  * does so.
- * No call of the library needs more than 332 bytes of stack. That is measured, by bench/stack, with the call's return
+ * No call of the library needs more than 316 bytes of stack. That is measured, by bench/stack, with the call's return
  * address; no proof speaks of it.
  */
 struct daly_reader {

@@ -54,7 +54,7 @@ pub const PARTS: &[Part] = &[
     },
     Part {
         name: "account: the sum of any five counts",
-        minimum: 5_000,
+        minimum: 10_000,
         ask: reader::sums,
     },
 ];

@@ -96,9 +96,11 @@ fn streams(trial: &mut Trial, strict: bool) {
     }
 }
 
+/// Every other time each count is as likely to be small as large.
 fn sums(trial: &mut Trial) {
-    for _ in 0..trial.rounds(20_000) {
-        let tally = [(); 7].map(|()| trial.random.word() >> trial.random.below(32));
+    for round in 0..trial.rounds(20_000) {
+        let most = if round % 2 == 0 { 1 } else { 32 };
+        let tally = [(); 7].map(|()| trial.random.word() >> trial.random.below(most));
         let Discarded {
             noise,
             sum,

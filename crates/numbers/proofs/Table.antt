@@ -16,7 +16,7 @@ use Rattle.soc.specs.declared.SocCountsAnswer.the-variants.{SocCountsGiven, Soc
 use Rattle.soc.specs.Soc.{decodedSocCounts}
 use Rattle.flags.specs.Faults.{faults}
 use Rattle.rules.specs.Rules.{sumRight, restarts, judge, look, stay, after, drops}
-use Rattle.rules.specs.Ledger.{turns, run, total as counted}
+use Rattle.rules.specs.Ledger.{turns, run, total as counted, lostFor}
 use Rattle.rules.specs.Reader.{complete, heldOf, untaken, did, booked, push, status, bad, answer, completeness}
 use Rattle.pack.specs.Pack.{difference, packAnswer}
 use Rattle.numbers.specs.Numbers.{Numbers, soc, cells, read, weighed}
@@ -59,15 +59,15 @@ unfolding faults frame summed sum total
 p10-list = refl
 
 p11-read : read 0x95 3 (cells 1 ++ cells 2 ++ cells 1 ++ cells 2 ++ cells 3) ≡ record { complete = true; status = 0; cleared = 2; discarded = 0; taken = 65 }
-unfolding frame summed sum total sumRight restarts judge look stay after drops turns run counted complete heldOf untaken did booked push status bad answer completeness
+unfolding frame summed sum total sumRight restarts judge look stay after drops turns run counted lostFor complete heldOf untaken did booked push status bad answer completeness
 p11-read = refl
 
 p12-read : read 0x90 1 (replicate 512 0 ++ soc) ≡ record { complete = true; status = 0; cleared = 0; discarded = 512; taken = 525 }
-unfolding sum total sumRight restarts judge look stay after drops turns run counted complete heldOf untaken did booked push status bad answer completeness
+unfolding sum total sumRight restarts judge look stay after drops turns run counted lostFor complete heldOf untaken did booked push status bad answer completeness
 p12-read = refl
 
 p13-read : read 0x90 1 (replicate 513 0 ++ soc) ≡ record { complete = true; status = 2; cleared = 0; discarded = 513; taken = 526 }
-unfolding sum total sumRight restarts judge look stay after drops turns run counted complete heldOf untaken did booked push status bad answer completeness
+unfolding sum total sumRight restarts judge look stay after drops turns run counted lostFor complete heldOf untaken did booked push status bad answer completeness
 p13-read = refl
 
 p14-both :

@@ -17,7 +17,7 @@ use Rattle.soc.specs.Soc.{decodedSocCounts}
 use Rattle.temperature_range.specs.TemperatureRange.{temperatureOf}
 use Rattle.flags.specs.Balance.{flagCount}
 use Rattle.flags.specs.Faults.{faults}
-use Rattle.rules.specs.Reader.{Answer, fresh, answer, completeness}
+use Rattle.rules.specs.Reader.{Answer, allOf, fresh, answer, completeness}
 use Rattle.pack.specs.declared.PackAnswer.{PackAnswer}
 use Rattle.pack.specs.declared.PackAnswer.the-variants.{PackChecked}
 use Rattle.pack.specs.Pack.{packAnswer}
@@ -44,7 +44,7 @@ told a =
       complete = completeness (a .reader);
       status = a .status;
       cleared = a .reader .cleared;
-      discarded = a .reader .discarded;
+      discarded = allOf (a .reader .discarded);
       taken = a .reader .taken;
     }
 

@@ -36,7 +36,7 @@ use Rattle.list.specs.Numbered.{framesFor}
 use Rattle.list.specs.Cells.{DecodesMillivolts, DecodesVoltages, DecodesTemperatures}
 use Rattle.flags.specs.Balance.{DecodesBalance}
 use Rattle.flags.specs.Faults.{DecodesFaults}
-use Rattle.rules.specs.Reader.{Answer, fresh, completeness, joined}
+use Rattle.rules.specs.Reader.{each, Answer, fresh, completeness, joined}
 use Rattle.rules.specs.Demand.{answers}
 use Rattle.writing.specs.declared.SocWire.{SocWire}
 use Rattle.writing.specs.declared.MosfetStatusWire.{MosfetStatusWire}
@@ -172,7 +172,7 @@ read-faults back address flags out h r exit d = let e = back .faults address fla
 -- "complete with exactly its frames, nothing held, discarded or cleared, status 0"
 read-met : (frames : List (List ℕ)) (a : Answer) → Met frames a
     → (completeness (a .reader) ≡ true) × (a .reader .collected ≡ frames) × (a .reader .taken ≡ 13 * length frames)
-    × (a .reader .held ≡ []) × (a .reader .discarded ≡ 0) × (a .reader .cleared ≡ 0) × (a .status ≡ 0)
+    × (a .reader .held ≡ []) × (a .reader .discarded ≡ each (λ y. 0)) × (a .reader .cleared ≡ 0) × (a .status ≡ 0)
 read-met frames a m = (m .complete, m .collected, m .taken, m .held, m .discarded, m .cleared, m .status)
 
 -- document 01's example in three pieces, with two bytes behind it, into a strict reader: its address is 01

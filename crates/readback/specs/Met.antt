@@ -7,7 +7,7 @@ use lib.ListN.{length}
 use Rattle.wire.specs.Lists.{firsts}
 use Rattle.frame.specs.Frame.{frame}
 use Rattle.rules.specs.Rules.{Config}
-use Rattle.rules.specs.Reader.{Answer, fresh, framesOf, completeness, joined}
+use Rattle.rules.specs.Reader.{each, Answer, fresh, framesOf, completeness, joined}
 use Rattle.rules.specs.Demand.{answers}
 use Rattle.writing_lists.specs.Numbered.{numberedFrame, numberedReply}
 
@@ -25,7 +25,7 @@ pub record Met (frames : List (List ℕ)) (a : Answer) : Type 0 where
   pub collected : a .reader .collected ≡ frames
   pub taken : a .reader .taken ≡ 13 * length frames
   pub held : a .reader .held ≡ []
-  pub discarded : a .reader .discarded ≡ 0
+  pub discarded : a .reader .discarded ≡ each (λ y. 0)
   pub cleared : a .reader .cleared ≡ 0
   pub status : a .status ≡ 0
 

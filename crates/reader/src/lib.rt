@@ -122,16 +122,16 @@ pub struct Completed {
 }
 
 // The numbers without the tally.
-fn standing_of(c: Counts) -> Standing
-    ensures { λ r. ⌜ r ≡ standingOf c ⌝ }
+fn standing_of(counts: Counts) -> Standing
+    ensures { λ r. ⌜ r ≡ standingOf counts ⌝ }
 {
     Standing {
-        command: c.command,
-        mark: c.mark,
-        strict: c.strict,
-        wanted: c.wanted,
-        collected: c.collected,
-        held: c.held,
+        command: counts.command,
+        mark: counts.mark,
+        strict: counts.strict,
+        wanted: counts.wanted,
+        collected: counts.collected,
+        held: counts.held,
     }
 }
 
@@ -150,12 +150,7 @@ fn as_given(given: Standing) -> Standing
 }
 
 // A push on the frames and the tally, lent, and the other numbers by value: the core, which copies no frame that it does not collect and no count.
-pub fn push_into(
-    frames: &mut [u8; 1105],
-    tally: &mut [u32; 7],
-    c: Standing,
-    chunk: &[u8],
-) -> Went
+pub fn push_into(frames: &mut [u8; 1105], tally: &mut [u32; 7], c: Standing, chunk: &[u8]) -> Went
     ensures { λ r. ⌜ Answered (now (frames .entry)) (counted c (now (tally .entry))) (now (chunk .entry)) (r .said .status) (r .said .took) (counted (r .standing) (now (tally .exit))) (now (frames .exit)) ⌝ }
 {
     let before = state::all_of(tally);
@@ -231,12 +226,7 @@ fn missing_after(status: u8, next: Standing) -> u8
 }
 
 // The push that also tells what is then missing, so that a turn of a loop has one call.
-pub fn turn_into(
-    frames: &mut [u8; 1105],
-    tally: &mut [u32; 7],
-    c: Standing,
-    chunk: &[u8],
-) -> Turned
+pub fn turn_into(frames: &mut [u8; 1105], tally: &mut [u32; 7], c: Standing, chunk: &[u8]) -> Turned
     ensures { λ r. ⌜ TurnedInto (now (frames .entry)) (counted c (now (tally .entry))) (now (chunk .entry)) (r .turn) (counted (r .standing) (now (tally .exit))) (now (frames .exit)) ⌝ }
 {
     let w = push_into(frames, tally, c, chunk);

@@ -7,11 +7,17 @@ ghost use Rattle.reader.specs.View.{discardedIn, reasons};
 
 // The bytes taken; the bytes discarded, by reason; the frames cleared.
 pub const TAKEN: usize = 0;
+
 pub const NOISE: usize = 1;
+
 pub const SUM: usize = 2;
+
 pub const COMMAND: usize = 3;
+
 pub const NUMBER: usize = 4;
+
 pub const ECHO: usize = 5;
+
 pub const CLEARED: usize = 6;
 
 // Why bytes were discarded: "bytes before A5, bytes after a wrong sum, wrong command, wrong number, echo" (document 02, K3).

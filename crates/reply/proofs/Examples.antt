@@ -9,9 +9,9 @@ use Rattle.text.specs.Text.{decimal, hex2, field, line}
 use Rattle.frame.specs.Checks.{lenCheck, headerCheck, checksumCheck, frameCheck}
 use Rattle.report.specs.Report.{answerText}
 use Rattle.rules.specs.Rules.{Config, sumRight, restarts, judge, look, stay, after, drops}
-use Rattle.rules.specs.Ledger.{turns, run, total as counted}
+use Rattle.rules.specs.Ledger.{turns, run, total as counted, lostFor}
 use Rattle.rules.specs.Reader.{Reader, Answer, fresh, complete, heldOf, untaken, did, booked, push, bad, answer, joined, status}
-use Rattle.rules.proofs.Examples.{answered, c90, frame90, line90}
+use Rattle.rules.proofs.Examples.{five, answered, c90, frame90, line90}
 use Rattle.reader.specs.View.{chop, front, view}
 use Rattle.reader.specs.Told.{freshCounts}
 use Rattle.reader.specs.declared.Counts.{Counts}
@@ -24,7 +24,7 @@ use Rattle.reply.specs.Input.{State, stateOf, begun, streamed, fromSecon
 -- "Input `90 00 00 A5 A5 01 90 08 02 0B 00 00 74 B7 03 6A E3` prints, whole"
 pub document-01 :
     outputOf (0x90 ∷ 0x00 ∷ 0x00 ∷ 0xA5 ∷ frame90)
-    ≡ word "reply 90 taken 15 held 0 frames 1 discarded 2 cleared 0\ntotal_voltage 523\ncurrent -121\nsoc_percent 874\n"
+    ≡ word "reply 90 taken 15 held 0 frames 1 discarded 2 cleared 0 noise 1 sum 1 command 0 number 0 echo 0\ntotal_voltage 523\ncurrent -121\nsoc_percent 874\n"
 unfolding replySizeFor reported joined status
 document-01 = ap (λ (a : Answer). reported 0x90 0 (a .reader)) line90 ∙ example
 
@@ -73,16 +73,16 @@ pub first-two :
     × (pushed (came 1 0x95 0 none) [] ≡ came 1 0x95 0 none)
     × (pushed (came 1 0x95 0 none) (8 ∷ []) ≡ came 2 0x95 8 fresh95)
     × (pushed (came 0 0 0 none) (0x95 ∷ 8 ∷ []) ≡ came 2 0x95 8 fresh95)
-unfolding stateOf view chop front pushed fromFirst fromSecond streamed replySizeFor answer bad push did run turns look judge restarts sumRight sum total after drops stay booked counted complete heldOf untaken
+unfolding stateOf view chop front pushed fromFirst fromSecond streamed replySizeFor answer bad push did run turns look judge restarts sumRight sum total after drops stay booked counted lostFor complete heldOf untaken
 first-two = (refl, refl, refl, refl, refl, refl, refl)
 
 -- the stream goes to the reader, cut or whole; where no such command can be asked, nothing is read
 pub streams :
-    (pushed (came 2 0x90 5 (fresh c90)) (0 ∷ 0xA5 ∷ []) ≡ came 2 0x90 5 (answered c90 0 0 [] (0xA5 ∷ []) 2 1 0 false .reader))
-    × (pushed (came 2 0x90 5 (answered c90 0 0 [] (0xA5 ∷ []) 2 1 0 false .reader)) frame90 ≡ came 2 0x90 5 (answered c90 0 0 (frame90 ∷ []) [] 15 2 0 false .reader))
-    × (pushed (came 0 0 0 none) (0x90 ∷ 5 ∷ 0 ∷ 0xA5 ∷ frame90) ≡ came 2 0x90 5 (answered c90 0 0 (frame90 ∷ []) [] 15 2 0 false .reader))
+    (pushed (came 2 0x90 5 (fresh c90)) (0 ∷ 0xA5 ∷ []) ≡ came 2 0x90 5 (answered c90 0 0 [] (0xA5 ∷ []) 2 (five 1 0 0 0 0) 0 false .reader))
+    × (pushed (came 2 0x90 5 (answered c90 0 0 [] (0xA5 ∷ []) 2 (five 1 0 0 0 0) 0 false .reader)) frame90 ≡ came 2 0x90 5 (answered c90 0 0 (frame90 ∷ []) [] 15 (five 1 1 0 0 0) 0 false .reader))
+    × (pushed (came 0 0 0 none) (0x90 ∷ 5 ∷ 0 ∷ 0xA5 ∷ frame90) ≡ came 2 0x90 5 (answered c90 0 0 (frame90 ∷ []) [] 15 (five 1 1 0 0 0) 0 false .reader))
     × (pushed (came 2 0x99 5 (fresh c90)) frame90 ≡ came 2 0x99 5 (fresh c90))
-unfolding pushed fromFirst fromSecond streamed replySizeFor answer bad push did run turns look judge restarts sumRight sum total after drops stay booked counted complete heldOf untaken
+unfolding pushed fromFirst fromSecond streamed replySizeFor answer bad push did run turns look judge restarts sumRight sum total after drops stay booked counted lostFor complete heldOf untaken
 streams = (refl, refl, refl, refl)
 
 -- what is printed then: 7 before two bytes have come, 10, and else what the reader has
@@ -90,13 +90,13 @@ pub prints :
     (printed (came 0 0 0 none) ≡ word "refused 7\n")
     × (printed (came 1 0x90 0 none) ≡ word "refused 7\n")
     × (printed (came 2 0x99 0x90 none) ≡ word "refused 10\n")
-    × (printed (came 2 0x90 0 (fresh c90)) ≡ word "reply 90 taken 0 held 0 frames 0 discarded 0 cleared 0\nrefused 1\n")
+    × (printed (came 2 0x90 0 (fresh c90)) ≡ word "reply 90 taken 0 held 0 frames 0 discarded 0 cleared 0 noise 0 sum 0 command 0 number 0 echo 0\nrefused 1\n")
 unfolding printed reported joined status line field decimal hex2 answerText frameCheck lenCheck headerCheck checksumCheck
 prints = (refl, refl, refl, refl)
 
 -- the counts line's numbers from the struct, each from its own
-pub tallied : tallyOf (record { command = 0x95; mark = false; strict = false; taken = 9; discarded = 8; cleared = 7; wanted = 6; collected = 5; held = 4 })
-    ≡ record { taken = 9; held = 4; frames = 5; discarded = 8; cleared = 7 }
+pub tallied : tallyOf (record { command = 0x95; mark = false; strict = false; tally = 9 ∷ 8 ∷ 1 ∷ 2 ∷ 3 ∷ 10 ∷ 7 ∷ []; wanted = 6; collected = 5; held = 4 })
+    ≡ record { taken = 9; held = 4; frames = 5; discarded = 24; cleared = 7; noise = 8; sum = 1; command = 2; number = 3; echo = 10 }
 tallied = refl
 
 -- what `HoweverCut` gives of an input in two chunks, whoever pushed them by that contract: the text of its bytes

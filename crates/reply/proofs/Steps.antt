@@ -13,8 +13,8 @@ use Rattle.frame.specs.declared.Refusal.the-variants.{RequestTooShort, UnknownC
 use Rattle.frame.specs.Refusals.{refusalNumber}
 use Rattle.list.specs.Numbered.{replySize}
 use Rattle.rules.specs.Rules.{if_then_else_}
-use Rattle.rules.specs.Reader.{Reader, Answer, joined, status, answer}
-use Rattle.reader.specs.View.{view, chop, Answered}
+use Rattle.rules.specs.Reader.{Discards, Reader, Answer, allOf, joined, status, answer}
+use Rattle.reader.specs.View.{fiveIn, view, chop, Answered}
 use Rattle.reader.specs.declared.Counts.{Counts}
 use Rattle.reader.specs.Told.{freshCounts}
 use Rattle.reader.proofs.Parts.{length-chop, length-front, joined-chop}
@@ -114,12 +114,18 @@ view-bytes c f h = front-bytes (c .collected) f h
 same-tally : (c : Counts) (f : List ℕ) → tally (view c f) ≡ tallyOf c
 unfolding view
 same-tally c f =
+    let d : Discards = fiveIn (c .tally) in
     λ i. record {
-      taken = c .taken;
+      taken = getD (c .tally) 0 0;
       held = length-front (c .held) (drop (13 * c .collected) f) i;
       frames = length-chop (c .collected) f i;
-      discarded = c .discarded;
-      cleared = c .cleared;
+      discarded = allOf d;
+      cleared = getD (c .tally) 6 0;
+      noise = d .noise;
+      sum = d .sum;
+      command = d .command;
+      number = d .number;
+      echo = d .echo;
     }
 
 same-status : (c : Counts) (f : List ℕ) → _≡_ {A = ℕ} (cond (c .mark) 2 0) (status (view c f))

@@ -4,9 +4,10 @@ use mathlib.Core.Path.{_≡_}
 use mathlib.Core.Bool.{cond, false}
 use mathlib.Core.List.{List, [], _∷_}
 use lib.Dec.{ltb, eqb}
+use lib.ListN.{getD}
 use Rattle.frame.specs.declared.Refusal.the-variants.{RequestTooShort}
-use Rattle.rules.specs.Reader.{Reader, fresh, joined, answer}
-use Rattle.reader.specs.View.{view}
+use Rattle.rules.specs.Reader.{Discards, Reader, allOf, fresh, joined, answer}
+use Rattle.reader.specs.View.{fiveIn, view}
 use Rattle.reader.specs.Told.{freshCounts}
 use Rattle.reader.specs.declared.Counts.{Counts}
 use Rattle.report.specs.declared.Tally.{Tally}
@@ -54,7 +55,20 @@ printed st = cond (ltb 1 (st .seen)) (reported (st .command) (st .count) (st .re
 
 -- the counts line's numbers, from the struct
 abbrev pub tallyOf : Counts → Tally
-tallyOf c = record { taken = c .taken; held = c .held; frames = c .collected; discarded = c .discarded; cleared = c .cleared }
+tallyOf c =
+    let d : Discards = fiveIn (c .tally) in
+    record {
+      taken = getD (c .tally) 0 0;
+      held = c .held;
+      frames = c .collected;
+      discarded = allOf d;
+      cleared = getD (c .tally) 6 0;
+      noise = d .noise;
+      sum = d .sum;
+      command = d .command;
+      number = d .number;
+      echo = d .echo;
+    }
 
 -- chunks pushed one after the other, by any function with the contract of `push`
 abbrev pub Came : List (List ℕ) → Input → List ℕ → Input → List ℕ → Type 0

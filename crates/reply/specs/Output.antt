@@ -7,7 +7,7 @@ use lib.ListN.{length}
 use Rattle.frame.specs.declared.Refusal.the-variants.{RequestTooShort, UnknownCommand}
 use Rattle.list.specs.Numbered.{replySize}
 use Rattle.rules.specs.Rules.{Config}
-use Rattle.rules.specs.Reader.{Reader, fresh, framesOf, joined, status, answer}
+use Rattle.rules.specs.Reader.{Reader, allOf, fresh, framesOf, joined, status, answer}
 use Rattle.report.specs.declared.Tally.{Tally}
 use Rattle.report.specs.Lines.{refusalLine}
 use Rattle.report.specs.Report.{reportText}
@@ -26,10 +26,21 @@ wantedFor command count = framesOf (replySizeFor command count)
 abbrev pub asked : ℕ → ℕ → Config
 asked command count = record { command = command; wanted = wantedFor command count; strict = false }
 
--- "one line of counts"
+-- "one line of counts"; (document 02, K3) `discarded` is "their sum modulo 2^32", and the five stand behind `cleared`
 abbrev pub tally : Reader → Tally
 tally r =
-    record { taken = r .taken; held = length (r .held); frames = length (r .collected); discarded = r .discarded; cleared = r .cleared }
+    record {
+      taken = r .taken;
+      held = length (r .held);
+      frames = length (r .collected);
+      discarded = allOf (r .discarded);
+      cleared = r .cleared;
+      noise = r .discarded .noise;
+      sum = r .discarded .sum;
+      command = r .discarded .command;
+      number = r .discarded .number;
+      echo = r .discarded .echo;
+    }
 
 -- "then the fields .. or `refused N`: 2 when the last push said so, else the decoder's number", on the collected bytes
 abbrev pub replyText : ℕ → ℕ → Reader → List ℕ

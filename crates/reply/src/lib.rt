@@ -11,6 +11,9 @@ ghost use Rattle.reader.specs.View.{view};
 ghost use mathlib.Core.Bool.{cond, false};
 use frame::Refusal;
 use reader::Counts;
+use reader::tally::CLEARED;
+use reader::tally::TAKEN;
+use reader::tally::discarded_in;
 use report::Tally;
 
 // How many of the first two bytes have come, these two, and the numbers of the reader that the rest goes to. The reader's frames
@@ -46,9 +49,7 @@ fn fresh(command: u8, count: u8) -> Counts
         command: command,
         mark: false,
         strict: false,
-        taken: 0,
-        discarded: 0,
-        cleared: 0,
+        tally: [0u32; 7],
         wanted: (size + 12) / 13,
         collected: 0,
         held: 0,
@@ -67,9 +68,7 @@ pub fn begin() -> Input
             command: 0,
             mark: false,
             strict: false,
-            taken: 0,
-            discarded: 0,
-            cleared: 0,
+            tally: [0u32; 7],
             wanted: 0,
             collected: 0,
             held: 0,
@@ -80,12 +79,13 @@ pub fn begin() -> Input
 // Bytes behind the first two: the reader's.
 fn push_stream(frames: &mut [u8; 1105], input: Input, stream: &[u8]) -> Input
     ensures { λ r. ⌜ stateOf r (now (frames .exit)) ≡ streamed (stateOf input (now (frames .entry))) (now (stream .entry)) ⌝ }
+    ensures { λ r. ⌜ length (r .counts .tally) ≡ 7 ⌝ }
 {
     if !is_known(input.command) {
         return input;
     }
     let counts = input.counts;
-    let told = reader::push_into(frames, counts, stream);
+    let told = reader::push_counts(frames, counts, stream);
     let next = told.counts;
     Input {
         seen: input.seen,
@@ -98,6 +98,7 @@ fn push_stream(frames: &mut [u8; 1105], input: Input, stream: &[u8]) -> Input
 // Bytes behind the first: the count, then the reader's.
 fn push_count(frames: &mut [u8; 1105], input: Input, chunk: &[u8]) -> Input
     ensures { λ r. ⌜ stateOf r (now (frames .exit)) ≡ fromSecond (stateOf input (now (frames .entry))) (now (chunk .entry)) ⌝ }
+    ensures { λ r. ⌜ length (r .counts .tally) ≡ 7 ⌝ }
 {
     if chunk.len() == 0 {
         return input;
@@ -116,6 +117,7 @@ fn push_count(frames: &mut [u8; 1105], input: Input, chunk: &[u8]) -> Input
 // The next bytes of the input.
 pub fn push(frames: &mut [u8; 1105], input: Input, chunk: &[u8]) -> Input
     ensures { λ r. ⌜ stateOf r (now (frames .exit)) ≡ pushed (stateOf input (now (frames .entry))) (now (chunk .entry)) ⌝ }
+    ensures { λ r. ⌜ length (r .counts .tally) ≡ 7 ⌝ }
 {
     if 1 < input.seen {
         return push_stream(frames, input, chunk);
@@ -158,12 +160,18 @@ fn status_of(mark: bool) -> u8
 fn tally_of(counts: Counts) -> Tally
     ensures { λ r. ⌜ r ≡ tallyOf counts ⌝ }
 {
+    let discarded = discarded_in(&counts.tally);
     Tally {
-        taken: counts.taken,
+        taken: counts.tally[TAKEN],
         held: counts.held,
         frames: counts.collected,
-        discarded: counts.discarded,
-        cleared: counts.cleared,
+        discarded: discarded.all(),
+        cleared: counts.tally[CLEARED],
+        noise: discarded.noise,
+        sum: discarded.sum,
+        command: discarded.command,
+        number: discarded.number,
+        echo: discarded.echo,
     }
 }
 

@@ -13,21 +13,28 @@ use Rattle.text.specs.Words.{word}
 use Rattle.text.specs.Text.{decimal, signed, hex2, field, line, signedLine}
 use Rattle.report.specs.declared.Tally.{Tally}
 use Rattle.report.specs.Lines.{flagLine}
-use Rattle.report.specs.Report.{answerText, reportText}
+use Rattle.report.specs.Report.{countsText, answerText, reportText}
 
 -- the frame of P6, and what its reader counted: two bytes discarded before it
 abbrev pub p6 : List ℕ
 p6 = 0xA5 ∷ 0x01 ∷ 0x90 ∷ 0x08 ∷ 0x02 ∷ 0x0B ∷ 0x00 ∷ 0x00 ∷ 0x74 ∷ 0xB7 ∷ 0x03 ∷ 0x6A ∷ 0xE3 ∷ []
 
 abbrev pub counted : Tally
-counted = record { taken = 15; held = 0; frames = 1; discarded = 2; cleared = 0 }
+counted = record { taken = 15; held = 0; frames = 1; discarded = 2; cleared = 0; noise = 1; sum = 1; command = 0; number = 0; echo = 0 }
 
 -- "Input `90 00 00 A5 A5 01 90 08 02 0B 00 00 74 B7 03 6A E3` prints, whole"
 pub example :
     reportText 0x90 0 counted p6 0
-    ≡ word "reply 90 taken 15 held 0 frames 1 discarded 2 cleared 0\ntotal_voltage 523\ncurrent -121\nsoc_percent 874\n"
+    ≡ word "reply 90 taken 15 held 0 frames 1 discarded 2 cleared 0 noise 1 sum 1 command 0 number 0 echo 0\ntotal_voltage 523\ncurrent -121\nsoc_percent 874\n"
 unfolding total sum sumOf lenCheck headerCheck checksumCheck frameCheck decimal signed hex2 field line signedLine answerText
 example = refl
+
+-- (document 02, K3) each count behind its name, in this order
+pub counts-line :
+    countsText 0x95 (record { taken = 9; held = 8; frames = 7; discarded = 6; cleared = 5; noise = 4; sum = 3; command = 2; number = 1; echo = 10 })
+    ≡ word "reply 95 taken 9 held 8 frames 7 discarded 6 cleared 5 noise 4 sum 3 command 2 number 1 echo 10\n"
+unfolding decimal hex2 field
+counts-line = refl
 
 -- "With a 00 appended it is refused 3"; a status of 2 stands before any field; nothing collected is refused 1
 pub refusals :
@@ -37,10 +44,10 @@ pub refusals :
     ∷ reportText 0x90 0 counted [] 0
     ∷ reportText 0x99 0 counted p6 0
     ∷ [])
-    (word "reply 90 taken 15 held 0 frames 1 discarded 2 cleared 0\nrefused 3\n"
-    ∷ word "reply 90 taken 15 held 0 frames 1 discarded 2 cleared 0\nrefused 2\n"
-    ∷ word "reply 90 taken 15 held 0 frames 1 discarded 2 cleared 0\nrefused 1\n"
-    ∷ word "reply 99 taken 15 held 0 frames 1 discarded 2 cleared 0\nrefused 10\n"
+    (word "reply 90 taken 15 held 0 frames 1 discarded 2 cleared 0 noise 1 sum 1 command 0 number 0 echo 0\nrefused 3\n"
+    ∷ word "reply 90 taken 15 held 0 frames 1 discarded 2 cleared 0 noise 1 sum 1 command 0 number 0 echo 0\nrefused 2\n"
+    ∷ word "reply 90 taken 15 held 0 frames 1 discarded 2 cleared 0 noise 1 sum 1 command 0 number 0 echo 0\nrefused 1\n"
+    ∷ word "reply 99 taken 15 held 0 frames 1 discarded 2 cleared 0 noise 1 sum 1 command 0 number 0 echo 0\nrefused 10\n"
     ∷ [])
 unfolding total sum sumOf lenCheck headerCheck checksumCheck frameCheck decimal signed hex2 field line signedLine answerText
 refusals = refl

@@ -39,7 +39,7 @@ use Rattle.report.specs.declared.Tally.{Tally}
 use Rattle.report.specs.Lines.{refusedLine, flagNumber, flagLine, each, listText}
 use Rattle.report.specs.Fields.{socText, cellVoltageRangeText, temperatureRangeText, mosfetStatusText, statusText}
 use Rattle.report.specs.Lists.{cellLine, sensorLine, balanceLine, faultLine, cellsText, sensorsText, balanceText, faultsText}
-use Rattle.report.specs.Report.{countsText, answerText, reportText}
+use Rattle.report.specs.Report.{countsMiddle, countsText, answerText, reportText}
 
 -- a text of n bytes at most
 record Few (n : ℕ) (text : List ℕ) : Type 0 where
@@ -215,13 +215,11 @@ answer-few command count s h =
 named-field : (w : List ℕ) (n : ℕ) → length w ≤ 10 → Few 31 (field w n)
 named-field w n h = record { few = omega (arith, field-few w n) }
 
-counts-few : (command : ℕ) (t : Tally) → Few 164 (countsText command t)
-counts-few command t =
+middle-few : (command : ℕ) (t : Tally) → Few 163 (countsMiddle command t)
+middle-few command t =
     let reply : Few 6 (word "reply ") = record { few = lit≤ tt } in
     let digits : Few 2 (hex2 command) = record { few = hex2-few command } in
-    let end : Few 1 newline = record { few = lit≤ tt } in
     few-then
-    (few-then
     (few-then
     (few-then
     (few-then
@@ -229,7 +227,21 @@ counts-few command t =
     (named-field (word " held") (t .held) (lit≤ tt)))
     (named-field (word " frames") (t .frames) (lit≤ tt)))
     (named-field (word " discarded") (t .discarded) (lit≤ tt)))
-    (named-field (word " cleared") (t .cleared) (lit≤ tt)))
+    (named-field (word " cleared") (t .cleared) (lit≤ tt))
+
+counts-few : (command : ℕ) (t : Tally) → Few 319 (countsText command t)
+counts-few command t =
+    let end : Few 1 newline = record { few = lit≤ tt } in
+    few-then
+    (few-then
+    (few-then
+    (few-then
+    (few-then
+    (few-then (middle-few command t) (named-field (word " noise") (t .noise) (lit≤ tt)))
+    (named-field (word " sum") (t .sum) (lit≤ tt)))
+    (named-field (word " command") (t .command) (lit≤ tt)))
+    (named-field (word " number") (t .number) (lit≤ tt)))
+    (named-field (word " echo") (t .echo) (lit≤ tt)))
     end
 
 pub report-few : (command count : ℕ) (t : Tally) (s : List ℕ) (status : ℕ) → count < 256 → length (reportText command count t s status) ≤ 8192

@@ -210,7 +210,7 @@ module _ (r : Reader) (w : Ready r) (fs : List (List ℕ)) (t : List ℕ) (h : l
       let b : leb (c .wanted) (length fs) ≡ true = le-leb (c .wanted) (length fs) (omega arith) in
       let q : length (joined fs ++ t) - length t ≡ 13 * length fs = omega (arith, length-joined c 0 fs (numbered-on c fs v), length-append (joined fs) t) in
       let d : each (λ y. wrap (countOf (r .discarded) y + discardsFor y (done .ledger))) ≡ r .discarded =
-          (λ i. each (λ y. (ap (λ (n : ℕ). wrap (countOf (r .discarded) y + n)) (none-for (done .ledger) (o .lost) y) ∙ still r (w .fits) y) i)) in
+      (λ i. each (λ y. (ap (λ (n : ℕ). wrap (countOf (r .discarded) y + n)) (none-for (done .ledger) (o .lost) y) ∙ still r (w .fits) y) i)) in
       let m : r .mark || ltb 512 (allOf (r .discarded) + 0) ≡ r .mark = over-same (r .mark) (allOf (r .discarded)) (w .good .marked) in
       rw (w .empty, o .collected, o .rest, o .lost, o .dropped, b, q, d, m)
 

@@ -1,5 +1,5 @@
-//! Streams of more than 2^32 bytes, and a single chunk as long. Not among the parts: they take some
-//! minutes. The counts are worked out by hand.
+//! Streams of more than 2^32 bytes, and a single chunk as long. Not among the parts: they take a
+//! minute. The counts are worked out by hand.
 
 use super::numbers::{FRAMES, ONE_FRAME, SOC};
 use super::opened;

@@ -67,10 +67,11 @@ fn wanted_of(model: &Model, rust: &Rust) -> Vec<Value> {
     ]
 }
 
-/// `Discarded::all` of any five counts.
+/// `Discarded::all` of any five counts, every other time each as likely small as large.
 pub fn sums(trial: &mut Trial) {
-    for _ in 0..trial.rounds(5_000) {
-        let five = [(); 5].map(|()| trial.random.word() >> trial.random.below(32));
+    for round in 0..trial.rounds(10_000) {
+        let most = if round % 2 == 0 { 1 } else { 32 };
+        let five = [(); 5].map(|()| trial.random.word() >> trial.random.below(most));
         let [noise, sum, command, number, echo] = five;
         let discarded = Discarded {
             noise,

@@ -11,8 +11,8 @@ use Rattle.reply.proofs.fresh.Tie as tie
 reply-size-requires : tie.Need-reply-size-requires
 reply-size-requires c κs = search needs
 
-add-t4 : tie.Need-add-t4
-add-t4 c =
+add-t5 : tie.Need-add-t5
+add-t5 c =
     let a = c .before .args in
     record { fits = omega (arith, size-few (a .command) (a .count) (c .before .fits .count .fits), c .reply-size .ensures) }
 
@@ -20,4 +20,4 @@ returns : tie.Need-returns
 returns c = ap (λ (z : ℕ). freshCounts (c .before .args .command) ((z + 12) / 13) false) (c .reply-size .ensures)
 
 pub fresh-spec : {M : Type 1} → statement M
-fresh-spec = tie.close (tie.spec reply-size-requires add-t4 returns)
+fresh-spec = tie.close (tie.spec reply-size-requires add-t5 returns)

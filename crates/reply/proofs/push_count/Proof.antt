@@ -5,7 +5,7 @@ use Rattle.reply.proofs.push_count.Statement.{statement}
 use Rattle.reply.proofs.push_count.Tie as tie
 
 returns : tie.Need-returns
-returns c = sym (second-none _ _ (c .if1 .taken))
+returns c = (sym (second-none _ _ (c .if1 .taken)), search needs)
 
 shared-slice-read-count : tie.Need-shared-slice-read-count
 shared-slice-read-count c = search needs
@@ -28,7 +28,7 @@ push-stream-requires c κs = search needs
 returns-2 : tie.Need-returns-2
 returns-2 c =
     let g = c .before .before .before in
-    c .push-stream .ensures ∙ second-some _ _ _ _ (g .before .before .if1 .left) (g .fresh .ensures)
+    (c .push-stream .ensures .0 ∙ second-some _ _ _ _ (g .before .before .if1 .left) (g .fresh .ensures), c .push-stream .ensures .1)
 
 pub push-count-spec : {M : Type 1} → statement M
 push-count-spec =

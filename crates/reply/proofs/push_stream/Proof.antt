@@ -11,15 +11,15 @@ is-known-requires c κs = search needs
 
 returns : tie.Need-returns
 unfolding stateOf
-returns c = sym (streamed-unknown _ _ (sym (c .before .is-known .ensures) ∙ not-true _ (c .if1 .taken)))
+returns c = (sym (streamed-unknown _ _ (sym (c .before .is-known .ensures) ∙ not-true _ (c .if1 .taken))), search needs)
 
-push-into-requires : tie.Need-push-into-requires
-push-into-requires c κs = search needs
+push-counts-requires : tie.Need-push-counts-requires
+push-counts-requires c κs = search needs
 
 returns-2 : tie.Need-returns-2
 returns-2 c =
     let k = c .before .before .before .before in
-    streamed-told _ _ _ _ _ _ _ (sym (k .before .is-known .ensures) ∙ not-false _ (k .if1 .left)) (c .before .push-into .ensures)
+    (streamed-told _ _ _ _ _ _ _ (sym (k .before .is-known .ensures) ∙ not-false _ (k .if1 .left)) (c .before .push-counts .ensures), c .before .push-counts .ensures .seven)
 
 pub push-stream-spec : {M : Type 1} → statement M
-push-stream-spec = tie.close (tie.spec is-known-requires returns push-into-requires returns-2)
+push-stream-spec = tie.close (tie.spec is-known-requires returns push-counts-requires returns-2)

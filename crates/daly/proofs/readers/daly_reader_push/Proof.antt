@@ -348,7 +348,7 @@ module _ {M : Type 1} (𝓤 : URA M) (H : Heap 𝓤) (A : Atoms 𝓤) (W : Given
         assigns ! (of-opd ! (load ! (from ! (hop ! (look ! 29 refl) (fld ! refl (fld ! refl (stop !))))) (look-in ! 0 (sub ! 5 refl (sub ! 0 refl (whole !)))))) (from ! (stop !)) (init ! 13 refl (uint-lawful 𝓤 H A W w64 .typed (m .collected) _ (has .1 .1 .1 .1 .0) .0)) $
         assigns ! (of-opd ! (load ! (from ! (hop ! (look ! 29 refl) (fld ! refl (fld ! refl (stop !))))) (look-in ! 0 (sub ! 6 refl (sub ! 0 refl (whole !)))))) (from ! (stop !)) (init ! 11 refl (uint-lawful 𝓤 H A W w64 .typed (m .held) _ (has .1 .1 .1 .1 .1 .0) .0)) $
         assigns ! (agg ! (and-then ! (load ! (from ! (stop !)) (look ! 21 refl)) (and-then ! (load ! (from ! (stop !)) (look ! 19 refl)) (and-then ! (load ! (from ! (stop !)) (look ! 17 refl)) (and-then ! (load ! (from ! (stop !)) (look ! 15 refl)) (and-then ! (load ! (from ! (stop !)) (look ! 13 refl)) (and-then ! (load ! (from ! (stop !)) (look ! 11 refl)) (no-more !))))))))
-            (from ! (stop !)) (init ! 25 refl (LL.lawful Q.the-type Q′.the-laws 𝓤 H A W .typed (standingOf m) _ (standing-of m (counts-of (h m xs) _ was)) .0)) $
+        (from ! (stop !)) (init ! 25 refl (LL.lawful Q.the-type Q′.the-laws 𝓤 H A W .typed (standingOf m) _ (standing-of m (counts-of (h m xs) _ was)) .0)) $
         assigns ! (addr ! (from ! (hop ! (look ! 29 refl) (fld ! refl (stop !))))) (from ! (stop !)) (init ! 9 refl (tt, tt)) $
         assigns ! (addr ! (from ! (hop ! (look ! 29 refl) (fld ! refl (fld ! refl (stop !)))))) (from ! (stop !)) (init ! 7 refl (tt, tt)) $
         -- the arrays' cells are taken out, and lent for lifetimes ν and μ of the call
@@ -398,6 +398,7 @@ module _ {M : Type 1} (𝓤 : URA M) (H : Heap 𝓤) (A : Atoms 𝓤) (W : Given
         returns ! (look ! 32 refl) $ forget ! 8 refl $ forget ! 10 refl $ forget ! 12 refl $ forget ! 14 refl $ forget ! 16 refl $ forget ! 18 refl $ forget ! 20 refl $ forget ! 22 refl $ forget ! 24 refl $ forget ! 26 refl $ forget ! 28 refl $ forget ! 30 refl $ forget ! 32 refl $
         move ! (32 ∷ 33 ∷ []) $ free1 ! $ move ! (30 ∷ 31 ∷ []) $ free1 ! $ move ! (28 ∷ 29 ∷ []) $ free1 ! $ move ! (26 ∷ 27 ∷ []) $ free1 ! $ move ! (24 ∷ 25 ∷ []) $ free1 ! $ move ! (22 ∷ 23 ∷ []) $ free1 ! $ move ! (20 ∷ 21 ∷ []) $ free1 ! $ move ! (18 ∷ 19 ∷ []) $ free1 ! $ move ! (16 ∷ 17 ∷ []) $ free1 ! $ move ! (14 ∷ 15 ∷ []) $ free1 ! $ move ! (12 ∷ 13 ∷ []) $ free1 ! $ move ! (10 ∷ 11 ∷ []) $ free1 ! $ move ! (8 ∷ 9 ∷ []) $ free1 ! $ free0 ! $
         keep ! (0 ∷ 1 ∷ 2 ∷ 3 ∷ 6 ∷ []) $ by ! (exits 𝓤 H A W at-mem run κ κ′ bounds q q′ b o γ (h m xs) s (r .turn) (left r (zs .0) (zs .1 .0)) (subst (λ (n : Counts). TurnedLent (h m xs) (now s) (r .turn) (h n (zs .0))) (sym (next-same xs m (now s) (r .turn) (r .standing) (zs .1 .0) (zs .0) e)) e) (turn-is r u is))))))))))))))))))))))))))))
+
 pub daly-reader-push-spec : {M : Type 1} → stated.statement M
 unfolding code.routine tablesOf
 daly-reader-push-spec 𝓤 H 𝓜 𝓖 𝓡 =

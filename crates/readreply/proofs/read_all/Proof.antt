@@ -47,7 +47,7 @@ loop-again : tie.Need-loop-again Inv-loop μ-loop
 loop-again c =
     let t = c .before .before .before .before .before .before .before .before .before in
     let l : length (t .before .before .loop .buffer) ≡ length (t .before .before .before .before .before .args .buffer .now) = t .before .before .loop .inv .1 in
-    (so-next _ _ _ _ _ _ (t .before .before .loop .inv .0) (c .push .ensures), search (needs, l))
+    (so-next _ _ _ _ _ _ (t .before .before .loop .inv .0) (c .push .ensures .0), search (needs, l))
 
 same-length : tie.Need-same-length Inv-loop μ-loop
 same-length c = search needs

@@ -101,10 +101,14 @@ pub fn discarding(
     loop {
         let bytes = RULES[rule](random, asked, count);
         let stream = [bytes, streams::run(random, asked, 1, last)].concat();
-        let judged = if rule == WRONG_SUMS { count } else { 0 };
-        let mut judged = stream.windows(FRAME).take(judged);
-        if judged.all(|frame| !frames::has_right_sum(frame)) {
+        if rule != WRONG_SUMS || have_wrong_sums(&stream, count) {
             return stream;
         }
     }
+}
+
+/// Whether no frame with a right sum begins at one of the first so many bytes.
+pub fn have_wrong_sums(stream: &[u8], count: usize) -> bool {
+    let mut judged = stream.windows(FRAME).take(count);
+    judged.all(|frame| !frames::has_right_sum(frame))
 }

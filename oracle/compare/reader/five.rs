@@ -2,7 +2,7 @@
 //! wrap alone, and five that stand for 512 or 513, by themselves or once their sum has wrapped.
 
 use super::bad;
-use super::discards::{before_start, wrong_sum};
+use super::discards::{before_start, have_wrong_sums, wrong_sum};
 use super::echoes;
 use super::exchange::exchange;
 use super::kinds::way;
@@ -241,10 +241,7 @@ fn alone(random: &mut Random, asked: Asked, why: usize, strict: bool) -> (Vec<u8
             _ => echoes::numbered(random, asked, 1),
         };
         let stream = [&bytes[..], &echoes::from_board(random, asked, 1)].concat();
-        // Of start bytes each is to have a wrong sum.
-        let judged = if why == 1 { few } else { 0 };
-        let mut judged = stream.windows(FRAME).take(judged);
-        if judged.all(|frame| !frames::has_right_sum(frame)) {
+        if why != 1 || have_wrong_sums(&stream, few) {
             return (stream, bytes.len());
         }
     }

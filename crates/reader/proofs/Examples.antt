@@ -5,12 +5,13 @@ use mathlib.Core.Bool.{true, false}
 use mathlib.Core.List.{List, [], _∷_, _++_}
 use lib.ListN.{length, replicate}
 use Rattle.frame.specs.Frame.{total, sum}
-use Rattle.rules.specs.Rules.{sumRight, restarts, judge, look, stay, after, drops}
+use Rattle.rules.specs.Rules.{noise, wrongSum, wrongCommand, wrongNumber, echo, discarded as thrown, collected, sumRight, restarts, judge, look, stay, after, drops}
 use Rattle.rules.specs.Ledger.{turns, run, total as total-of, lostFor}
 use Rattle.rules.specs.Reader.{Answer, bad, complete, heldOf, untaken, did, booked, push, status, answer, missing, completeness, stateNumber}
 use Rattle.rules.proofs.Examples.{five, nothing, answered, c90, frame90}
 use Rattle.reader.specs.declared.Counts.{Counts}
-use Rattle.reader.specs.View.{chop, front, view, Answered}
+use Rattle.reader.specs.declared.Standing.{Standing}
+use Rattle.reader.specs.View.{seatOf, fiveIn, discardedIn, reasons, counted, standingOf, chop, front, view, Answered}
 use Rattle.reader.specs.Lent.{seen}
 use Rattle.reader.specs.Told.{freshCounts, freshReader, openingOf, opened, missingTold, completeTold}
 
@@ -52,15 +53,18 @@ told = (refl, refl)
 fresh-numbers : freshCounts 0x95 3 true ≡ record { command = 0x95; mark = false; strict = true; tally = 0 ∷ 0 ∷ 0 ∷ 0 ∷ 0 ∷ 0 ∷ 0 ∷ []; wanted = 3; collected = 0; held = 0 }
 fresh-numbers = refl
 
--- the struct as the rules see it: each number in its place, two frames collected, three bytes held behind them, and one place more in the array
+-- the struct as the rules see it: each number in its place, two frames collected, four bytes held behind them, and one place more in the array
 abbrev halfway : Counts
-halfway = record { command = 0x95; mark = true; strict = true; tally = 42 ∷ 1 ∷ 2 ∷ 3 ∷ 4 ∷ 6 ∷ 5 ∷ []; wanted = 3; collected = 2; held = 3 }
+halfway = record { command = 0x95; mark = true; strict = false; tally = 42 ∷ 1 ∷ 2 ∷ 3 ∷ 4 ∷ 6 ∷ 5 ∷ []; wanted = 3; collected = 2; held = 4 }
 
-viewed : view halfway (replicate 13 1 ++ replicate 13 2 ++ (0xA5 ∷ 4 ∷ 5 ∷ 6 ∷ []))
+abbrev halfway-standing : Standing
+halfway-standing = record { command = 0x95; mark = true; strict = false; wanted = 3; collected = 2; held = 4 }
+
+viewed : view halfway (replicate 13 1 ++ replicate 13 2 ++ (0xA5 ∷ 4 ∷ 5 ∷ 6 ∷ 7 ∷ []))
     ≡ record {
-      config = record { command = 0x95; wanted = 3; strict = true };
+      config = record { command = 0x95; wanted = 3; strict = false };
       collected = replicate 13 1 ∷ replicate 13 2 ∷ [];
-      held = 0xA5 ∷ 4 ∷ 5 ∷ [];
+      held = 0xA5 ∷ 4 ∷ 5 ∷ 6 ∷ [];
       taken = 42;
       discarded = five 1 2 3 4 6;
       cleared = 5;
@@ -70,8 +74,25 @@ unfolding view chop front
 viewed = refl
 
 -- so is a reader that the caller has
-seen-lent : seen (record { counts = halfway; frames = replicate 13 1 ++ replicate 13 2 ++ (0xA5 ∷ 4 ∷ 5 ∷ 6 ∷ []) }) ≡ view halfway (replicate 13 1 ++ replicate 13 2 ++ (0xA5 ∷ 4 ∷ 5 ∷ 6 ∷ []))
+seen-lent : seen (record { counts = halfway; frames = replicate 13 1 ++ replicate 13 2 ++ (0xA5 ∷ 4 ∷ 5 ∷ 6 ∷ 7 ∷ []) }) ≡ view halfway (replicate 13 1 ++ replicate 13 2 ++ (0xA5 ∷ 4 ∷ 5 ∷ 6 ∷ 7 ∷ []))
 seen-lent = refl
+
+-- the tally: where each reason counts, and a frame that is collected; what it has not is 0
+seats : (seatOf (thrown noise) ≡ 1) × (seatOf (thrown wrongSum) ≡ 2) × (seatOf (thrown wrongCommand) ≡ 3) × (seatOf (thrown wrongNumber) ≡ 4) × (seatOf (thrown echo) ≡ 5)
+    × (seatOf collected ≡ 0)
+seats = (refl, refl, refl, refl, refl, refl)
+
+none-counted : (fiveIn [] ≡ nothing) × (view (counted halfway-standing []) [] .taken ≡ 0) × (view (counted halfway-standing []) [] .cleared ≡ 0)
+unfolding view
+none-counted = (refl, refl, refl)
+
+by-name : (discardedIn (42 ∷ 1 ∷ 2 ∷ 3 ∷ 4 ∷ 6 ∷ 5 ∷ []) ≡ record { noise = 1; sum = 2; command = 3; number = 4; echo = 6 })
+    × (reasons (record { noise = 1; sum = 2; command = 3; number = 4; echo = 6 }) ≡ five 1 2 3 4 6)
+by-name = (refl, refl)
+
+-- the numbers without it, and with it again
+apart : (standingOf halfway ≡ halfway-standing) × (counted halfway-standing (42 ∷ 1 ∷ 2 ∷ 3 ∷ 4 ∷ 6 ∷ 5 ∷ []) ≡ halfway)
+apart = (refl, refl)
 
 -- "n numbers in any case"
 short : front 3 (1 ∷ []) ≡ 1 ∷ 0 ∷ 0 ∷ []
@@ -80,9 +101,9 @@ short = refl
 
 -- what the contract of a push says, read off: document 01's frame into a new reader, whatever its array holds
 pushed : (f : List ℕ) (st tk : ℕ) (c′ : Counts) (f′ : List ℕ) → Answered f (freshCounts 0x90 1 false) frame90 st tk c′ f′
-    → (st ≡ 0) × (tk ≡ 13) × (view c′ f′ ≡ answered c90 0 13 (frame90 ∷ []) [] 13 nothing 0 false .reader)
+    → (st ≡ 0) × (tk ≡ 13) × (length (c′ .tally) ≡ 7) × (view c′ f′ ≡ answered c90 0 13 (frame90 ∷ []) [] 13 nothing 0 false .reader)
 unfolding view chop front answer bad status push did run turns look judge restarts sumRight sum total after drops stay booked total-of lostFor complete heldOf untaken
-pushed f st tk c′ f′ a = (ap (λ (x : Answer). x .status) (a .by-rule), ap (λ (x : Answer). x .took) (a .by-rule), ap (λ (x : Answer). x .reader) (a .by-rule))
+pushed f st tk c′ f′ a = (ap (λ (x : Answer). x .status) (a .by-rule), ap (λ (x : Answer). x .took) (a .by-rule), a .seven, ap (λ (x : Answer). x .reader) (a .by-rule))
 
 -- "BadState returns the reader as given, with 0 taken": its numbers and its whole array
 refused : (f : List ℕ) (st tk : ℕ) (c′ : Counts) (f′ : List ℕ) → Answered f harmed frame90 st tk c′ f′ → (st ≡ 8) × (tk ≡ 0) × (c′ ≡ harmed) × (f′ ≡ f)

@@ -18,7 +18,7 @@ use Rattle.reader.specs.declared.Counts.{Counts}
 use Rattle.report.proofs.Examples.{example}
 use Rattle.list.specs.Numbered.{framesFor, replySize}
 use Rattle.reply.specs.declared.Input.{Input}
-use Rattle.reply.specs.Output.{known, replySizeFor, wantedFor, asked, reported, outputOf}
+use Rattle.reply.specs.Output.{tally, known, replySizeFor, wantedFor, asked, reported, outputOf}
 use Rattle.reply.specs.Input.{State, stateOf, begun, streamed, fromSecond, fromFirst, pushed, printed, tallyOf, Came, HoweverCut, OfSomeInput}
 
 -- "Input `90 00 00 A5 A5 01 90 08 02 0B 00 00 74 B7 03 6A E3` prints, whole"
@@ -98,6 +98,15 @@ prints = (refl, refl, refl, refl)
 pub tallied : tallyOf (record { command = 0x95; mark = false; strict = false; tally = 9 ∷ 8 ∷ 1 ∷ 2 ∷ 3 ∷ 10 ∷ 7 ∷ []; wanted = 6; collected = 5; held = 4 })
     ≡ record { taken = 9; held = 4; frames = 5; discarded = 24; cleared = 7; noise = 8; sum = 1; command = 2; number = 3; echo = 10 }
 tallied = refl
+
+-- places that a tally has not are 0; and of a reader as the rules see it, each count from its own
+tallied-none : tallyOf (record { command = 0x95; mark = false; strict = false; tally = []; wanted = 6; collected = 5; held = 4 })
+    ≡ record { taken = 0; held = 4; frames = 5; discarded = 0; cleared = 0; noise = 0; sum = 0; command = 0; number = 0; echo = 0 }
+tallied-none = refl
+
+tallied-reader : tally (answered c90 0 0 (frame90 ∷ []) (0xA5 ∷ 1 ∷ []) 9 (five 1 2 3 4 6) 7 false .reader)
+    ≡ record { taken = 9; held = 2; frames = 1; discarded = 16; cleared = 7; noise = 1; sum = 2; command = 3; number = 4; echo = 6 }
+tallied-reader = refl
 
 -- what `HoweverCut` gives of an input in two chunks, whoever pushed them by that contract: the text of its bytes
 pub in-two : HoweverCut → (s t f : List ℕ) (i₁ : Input) (f₁ : List ℕ) (i₂ : Input) (f₂ : List ℕ)

@@ -40,7 +40,7 @@ wrap-all : (f : Why → ℕ) → allOf (each (λ y. wrap (f y))) ≡ allOf (each
 wrap-all f =
     let q : ℕ = f noise / 4294967296 + f wrongSum / 4294967296 + f wrongCommand / 4294967296 + f wrongNumber / 4294967296 + f echo / 4294967296 in
     let s : fiveOf (each f) ≡ fiveOf (each (λ y. wrap (f y))) + q * 4294967296 = omega arith in
-    rw (s, add-mul-mod-self-right)
+    sym (ap wrap s ∙ add-mul-mod-self-right (fiveOf (each (λ y. wrap (f y)))) q 4294967296)
 
 -- the old count goes on by all that is discarded
 pub all-on : (d : Discards) (ls : List Line) → allOf (each (λ y. wrap (countOf d y + discardsFor y ls))) ≡ wrap (allOf d + discards ls)

@@ -1,4 +1,6 @@
 // 91: the highest and the lowest cell voltage, and which cells have them.
+#![tactic(auto)]
+
 ghost use Rattle.std.specs.Prelude.{◌≡◌, ◌≤◌, length};
 ghost use Rattle.cell_voltage_range.specs.CellVoltageRange.{cell_voltage_range_counts, cell_voltage_range_of};
 ghost use Rattle.cell_voltage_range.specs.CellVoltageRange.{decoded_cell_voltage_range_counts, decoded_cell_voltage_range};

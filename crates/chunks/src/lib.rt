@@ -1,4 +1,6 @@
 // A stream pushed in chunks of one size, in one call: the reader's core as a caller uses it, on memory of its own.
+#![tactic(auto)]
+
 ghost use Rattle.std.specs.Prelude.{◌≤◌, ◌<◌};
 ghost use Rattle.reader.specs.View.{Answered};
 

@@ -1,4 +1,6 @@
 // The library for controllers: what C calls, on numbers and byte slices. A `&[u8]` is a pointer and then a length.
+#![tactic(auto)]
+
 ghost use Rattle.std.specs.Prelude.{◌≡◌};
 ghost use Rattle.frame.specs.Refusals.{check_number};
 ghost use Rattle.frame.specs.Checks.{sum_of, frame_kind, part_check};

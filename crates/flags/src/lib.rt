@@ -1,4 +1,6 @@
 // The replies of one frame that list many values: balance flags and faults, stored into lent places.
+#![tactic(auto)]
+
 ghost use Rattle.std.specs.Prelude.{◌≡◌, ◌+◌, ◌≤◌, ◌<◌, ◌++◌, length, drop};
 ghost use Rattle.wire.specs.Lists.{firsts};
 ghost use Rattle.frame.specs.Checks.{frame_check};

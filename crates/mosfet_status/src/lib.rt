@@ -1,4 +1,6 @@
 // 93: what the MOSFETs do, the board's cycles and the capacity left.
+#![tactic(auto)]
+
 ghost use Rattle.std.specs.Prelude.{◌≡◌, ◌≤◌, length};
 ghost use Rattle.mosfet_status.specs.MosfetStatus.{mode_of, mosfet_check, mosfet_status_counts, mosfet_status_of};
 ghost use Rattle.mosfet_status.specs.MosfetStatus.{decoded_mosfet_status_counts, decoded_mosfet_status};

@@ -1,5 +1,7 @@
 // The push in the other forms that it has, for C: by value, its core on lent frames, and on a lent reader by way of the push by value.
 // They have the statement of the one that controllers call, `daly_reader_push` of the crate `daly`.
+#![tactic(auto)]
+
 ghost use Rattle.reader.specs.View.{Answered};
 ghost use Rattle.reader.specs.Lent.{AnsweredLent};
 

@@ -1,4 +1,6 @@
 // The reader of a reply's frames: the rules of the crate `rules`, on bytes that come in any chunks.
+#![tactic(auto)]
+
 ghost use Rattle.std.specs.Prelude.{◌≡◌, ◌-◌, ◌<◌, ◌≤◌, length, ◌≢◌};
 ghost use Rattle.rules.specs.Reader.{copy_check, joined};
 ghost use Rattle.list.specs.Listed.{Stores};

@@ -1,5 +1,7 @@
 // One-frame replies. Each decoder makes the frame check on the whole lent buffer and then reads its bytes.
 // Those that read have a crate each; those that are only checked stand here.
+#![tactic(auto)]
+
 ghost use Rattle.std.specs.Prelude.{◌≡◌};
 ghost use Rattle.frame.specs.Checks.{frame_check};
 

@@ -1,4 +1,6 @@
 // Standard input: command byte, count byte, then what came over the line. Prints what the reply says.
+#![tactic(auto)]
+
 ghost use Rattle.reply.specs.Input.{OfSomeInput};
 
 use libc::{STDERR_FILENO, STDIN_FILENO, STDOUT_FILENO};

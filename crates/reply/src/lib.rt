@@ -1,4 +1,6 @@
 // `readreply` without its reading and writing: the input's bytes, in whatever chunks they come, and the text after the last.
+#![tactic(auto)]
+
 ghost use Rattle.std.specs.Prelude.{◌≡◌, length, ◌*◌, ◌≤◌, ◌<◌, min, cond, false};
 ghost use Rattle.text.specs.Text.{Put};
 ghost use Rattle.reader.specs.Told.{fresh_counts};

@@ -1,4 +1,6 @@
 // What `readreply` prints after the input's end, as text in a lent buffer: one line of counts, then the reply's fields or `refused N`.
+#![tactic(auto)]
+
 ghost use Rattle.text.specs.Text.{Put};
 ghost use Rattle.report.specs.Lines.{refusal_line, flag_line};
 ghost use Rattle.report.specs.Report.{counts_head, counts_middle, counts_text, answer_text, report_text};

@@ -1,4 +1,6 @@
 // The requests: each builder answers the 13 bytes to send.
+#![tactic(auto)]
+
 ghost use Rattle.std.specs.Prelude.{◌≡◌};
 ghost use Rattle.request.specs.Requests.{request, read_request, switch_request, set_soc_request};
 

@@ -1,4 +1,6 @@
 // 90: total voltage, current and state of charge.
+#![tactic(auto)]
+
 ghost use Rattle.std.specs.Prelude.{◌≡◌, ◌≤◌, length};
 ghost use Rattle.soc.specs.Soc.{soc_counts, soc_of, decoded_soc_counts, decoded_soc};
 

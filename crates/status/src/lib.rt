@@ -1,4 +1,6 @@
 // 94: how many cells and sensors there are, what runs, and the inputs and outputs.
+#![tactic(auto)]
+
 ghost use Rattle.std.specs.Prelude.{◌≡◌, ◌≤◌, length};
 ghost use Rattle.status.specs.Status.{io_state, status_of, decoded_status};
 

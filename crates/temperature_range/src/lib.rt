@@ -1,4 +1,6 @@
 // 92: the highest and the lowest temperature, and which sensors have them.
+#![tactic(auto)]
+
 ghost use Rattle.std.specs.Prelude.{◌≡◌, ◌≤◌, length};
 ghost use Rattle.temperature_range.specs.TemperatureRange.{as_i8, temperature_of, temperature_range, decoded_temperature_range};
 

@@ -1,4 +1,6 @@
 // Counts of the wire as `f32`, and the count that a `SetSoc` request sends.
+#![tactic(auto)]
+
 ghost use Rattle.std.specs.Prelude.{◌≡◌, pos};
 ghost use Rattle.units.specs.Floats.{nearest, tenths, thousandths, current_count};
 ghost use Rattle.units.specs.SetSoc.{sent, set_soc_count};

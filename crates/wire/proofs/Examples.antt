@@ -1,8 +1,7 @@
 -- Worked answers: the halves of a four-byte count, and flags as bytes. Assumes nothing.
-use Prim.Native.Nat.{ℕ}
 use mathlib.Core.Path.{◌≡◌, refl}
-use mathlib.Core.Bool.{Bool, true, false}
-use mathlib.Core.List.{List, [], ◌∷◌, map}
+use mathlib.Core.Bool.{true, false}
+use mathlib.Core.List.{[], ◌∷◌, map}
 use Rattle.wire.specs.Bytes.{high_half, low_half, flag_byte, packed, byte_of}
 
 halves : (high_half 0x12345678 ∷ low_half 0x12345678 ∷ []) ≡ 0x1234 ∷ 0x5678 ∷ []

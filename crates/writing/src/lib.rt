@@ -1,4 +1,6 @@
 // Replies of one frame as a board sends them, from whole wire counts into a lent buffer: 90 to 94, and the acknowledgements.
+#![tactic(auto)]
+
 ghost use Rattle.std.specs.Prelude.{◌≡◌};
 ghost use Rattle.writing.specs.Replies.{put_at, WritesFrame, soc_reply, cell_voltage_range_reply, plus40, temperature_range_reply};
 ghost use Rattle.writing.specs.Replies.{mosfet_status_reply, WritesMosfetStatus, state_byte, status_reply, acknowledgement};

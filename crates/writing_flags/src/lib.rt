@@ -1,4 +1,6 @@
 // Balance flags and faults as a board sends them: 97 and 98, into a lent buffer.
+#![tactic(auto)]
+
 ghost use Rattle.std.specs.Prelude.{◌≡◌};
 ghost use Rattle.writing.specs.Replies.{WritesFrame};
 ghost use Rattle.writing_flags.specs.Replies.{balance_reply, WritesBalance, faults_reply};

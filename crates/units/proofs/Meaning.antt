@@ -1,6 +1,6 @@
 -- What the rounding of `SetSoc` means, beside its definition `half_up`: for x = a / b, r is the one whole number with r − 1/2 ≤ x < r + 1/2.
 -- Both sides are multiplied by 2 * b, and the halves brought to x's side. And what is sent lies in 0..1000. Assumes nothing.
-use Rattle.std.proofs.Common.{◌≡◌, ℕ, ◌+◌, ◌*◌, ◌<◌, ◌≤◌, true, false, ℤ, pos, negsuc, zero-le, le_refl, zero-lt-suc, add_mul, mul-pos, one-mul, div-mul-le_self, arith}
+use Rattle.std.proofs.Common.{◌≡◌, ℕ, ◌+◌, ◌*◌, ◌<◌, ◌≤◌, true, false, ℤ, pos, negsuc, zero-le, le_refl, zero-lt-suc, add-mul, mul-pos, one-mul, div-mul-le_self, arith}
 use native.Mathlib.Nat.{lt-div-mul-add, div-eq_of_lt-le}
 use lib.Ieee.{Float, nan, inf, fin, up, down}
 use Rattle.units.specs.SetSoc.{half_up, half_away, limit, sent}
@@ -18,7 +18,7 @@ half_up_rounds a b B =
 
 pub half_up-only : (a b r : ℕ) → Rounds a b r → half_up a b ≡ r
 unfolding half_up
-half_up-only a b r h = div-eq_of_lt-le (2 * b) h.not_above (omega (arith, add_mul r 1 (2 * b), one-mul (2 * b), h.not_below))
+half_up-only a b r h = div-eq_of_lt-le (2 * b) h.not_above (omega (arith, add-mul r 1 (2 * b), one-mul (2 * b), h.not_below))
 
 limited : (z : ℤ) → limit z ≤ 1000
 unfolding limit

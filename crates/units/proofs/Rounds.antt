@@ -1,5 +1,5 @@
 -- Each answer of `sent_count` is what is sent, by the pattern's exponent's field. Assumes nothing.
-use Rattle.std.proofs.Common.{◌≡◌, ℕ, zero, suc, ◌+◌, ◌-◌, ◌*◌, ◌/◌, ◌%◌, ◌^◌, ◌<◌, ◌≤◌, min, Bool, true, false, cond, not, T, eqb, ◌⊎◌, sym, refl, ap, ◌∙◌, subst, inl, inr, lt_of_lt_of_le, mod-lt, zero-lt-suc, mul_assoc, mul_comm, add_mul, mul-le-mul, eq-or-lt_of_le, mul-pos, le-div_iff_mul-le, mul-one, mul_left_comm, arith, lit≤, pow_pos, pow_mono, pow-add, shl_lt}
+use Rattle.std.proofs.Common.{◌≡◌, ℕ, zero, suc, ◌+◌, ◌-◌, ◌*◌, ◌/◌, ◌%◌, ◌^◌, ◌<◌, ◌≤◌, min, Bool, true, false, cond, not, T, eqb, ◌⊎◌, sym, refl, ap, ◌∙◌, subst, inl, inr, lt_of_lt_of_le, mod-lt, zero-lt-suc, mul_assoc, mul_comm, add-mul, mul-le-mul, eq-or-lt_of_le, mul-pos, le-div_iff_mul-le, mul-one, mul_left_comm, arith, lit≤, pow_pos, pow_mono, pow-add, shl_lt}
 use native.Mathlib.Nat.{add-div_right, div-div-eq-div-mul, div-eq_of_lt, pow-succ'}
 use lib.Ieee.{Float, nan, inf, binary32, of_fields, of_bits, is_nan}
 use lib.Ieee.Nearest.{div_same}
@@ -76,7 +76,7 @@ half_mid d x X =
     same d p s =
         let a : 2 * (d * p) * (s * 2) ≡ d * (2 * (s * (2 * p))) = simp (mul_assoc, mul_comm, mul_left_comm) in
         let b : s * (2 * p) * (s * 2) ≡ s * (2 * (s * (2 * p))) = simp (mul_assoc, mul_comm, mul_left_comm) in
-        add_mul (2 * (d * p)) (s * (2 * p)) (s * 2) ∙ ap (λ (m : ℕ). m + s * (2 * p) * (s * 2)) a ∙ ap (λ (m : ℕ). d * (2 * (s * (2 * p))) + m) b ∙ sym (add_mul d s (2 * (s * (2 * p))))
+        add-mul (2 * (d * p)) (s * (2 * p)) (s * 2) ∙ ap (λ (m : ℕ). m + s * (2 * p) * (s * 2)) a ∙ ap (λ (m : ℕ). d * (2 * (s * (2 * p))) + m) b ∙ sym (add-mul d s (2 * (s * (2 * p))))
 
 val_mid : (x t : ℕ) → 1 ≤ x → x ≤ 149 → half_up (val x t) (2 ^ 149) ≡ ((t + 8388608) / 2 ^ (149 - x) + 1) / 2
 val_mid zero t X Y = absurd (none X)

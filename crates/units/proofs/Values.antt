@@ -1,5 +1,5 @@
 -- What a bit pattern of an `f32` stands for, by its exponent's field x and its digits t, and what `sent` makes of it. Assumes nothing.
-use Rattle.std.proofs.Common.{◌≡◌, ℕ, zero, suc, ◌+◌, ◌*◌, ◌/◌, ◌%◌, ◌^◌, ◌<◌, ◌≤◌, min, Bool, true, false, cond, eqb, ℤ, pos, neg_ℤ, sym, refl, ap, ◌∙◌, subst, true≢false, zero-lt-suc, mul_assoc, mul_comm, add_mul, mul-pos, mul_left_comm, arith, pow_pos, le-leb}
+use Rattle.std.proofs.Common.{◌≡◌, ℕ, zero, suc, ◌+◌, ◌*◌, ◌/◌, ◌%◌, ◌^◌, ◌<◌, ◌≤◌, min, Bool, true, false, cond, eqb, ℤ, pos, neg_ℤ, sym, refl, ap, ◌∙◌, subst, true≢false, zero-lt-suc, mul_assoc, mul_comm, add-mul, mul-pos, mul_left_comm, arith, pow_pos, le-leb}
 use lib.Ieee.{Float, nan, inf, fin, binary32, up, down, odd, of_fields, of_bits}
 use lib.Ieee.Fits.{down_pos}
 use lib.Ieee.Exact.{HasValue, odd_sign}
@@ -26,7 +26,7 @@ half_up-same a b c d B D e =
     let p : 2 * a * (2 * d) ≡ 2 * (2 * (a * d)) = simp (mul_assoc, mul_comm, mul_left_comm) in
     let q : 2 * c * (2 * b) ≡ 2 * (2 * (c * b)) = simp (mul_assoc, mul_comm, mul_left_comm) in
     let r : b * (2 * d) ≡ d * (2 * b) = simp (mul_assoc, mul_comm, mul_left_comm) in
-    let u : (2 * a + b) * (2 * d) ≡ (2 * c + d) * (2 * b) = omega (arith, add_mul (2 * a) b (2 * d), add_mul (2 * c) d (2 * b)) in
+    let u : (2 * a + b) * (2 * d) ≡ (2 * c + d) * (2 * b) = omega (arith, add-mul (2 * a) b (2 * d), add-mul (2 * c) d (2 * b)) in
     div_same (2 * a + b) (2 * b) (2 * c + d) (2 * d) (mul-pos (zero-lt-suc 1) B) (mul-pos (zero-lt-suc 1) D) u
 
 pub sent_val : (y : Float) (v c : ℕ) → 0 < c → HasValue y false v c → sent y ≡ min (half_up v c) 1000

@@ -1,0 +1,7 @@
+use Rattle.std.proofs.Common.{refl}
+use lib.Ieee.{of_int, of_bits}
+use Rattle.units.proofs.tenths_u16.Goals as goal
+
+pub returns : goal.returns
+unfolding of_int of_bits
+returns c = refl

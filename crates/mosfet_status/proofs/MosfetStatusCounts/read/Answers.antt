@@ -1,0 +1,6 @@
+use borrow.Author.Rules.{rules}
+use Rattle.mosfet_status.proofs.MosfetStatusCounts.read.Goals as goal
+
+pub returns : goal.returns
+returns c =
+    rw (c.mode_of.ensures, c.four_bytes.ensures, c.two_bytes-high.ensures, c.two_bytes-low.ensures)

@@ -1,0 +1,5 @@
+use borrow.Author.Rules.{rules}
+use Rattle.mosfet_status.proofs.MosfetStatusCounts.record.Goals as goal
+
+pub returns : goal.returns
+returns c = rw c.thousandths_u32.ensures

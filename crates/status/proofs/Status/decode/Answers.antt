@@ -1,0 +1,15 @@
+use mathlib.Core.Path.{ap, sym, ◌∙◌}
+use borrow.Author.Rules.{rules}
+use Rattle.frame.proofs.Laws.{sound_long}
+use Rattle.status.specs.declared.StatusAnswer.TheVariants.{StatusGiven}
+use Rattle.status.proofs.Status.decode.Goals as goal
+
+pub read-requires : goal.read-requires
+read-requires c = sound_long _ _ c.reply_check.ensures c.in-Sound.is
+
+pub returns-in-Refused : goal.returns-in-Refused
+returns-in-Refused c = rw (sym c.in-Refused.ensures)
+
+pub returns-in-Sound : goal.returns-in-Sound
+returns-in-Sound c =
+    rw (sym c.in-Sound.ensures) (ap StatusGiven c.read.ensures)

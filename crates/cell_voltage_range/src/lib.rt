@@ -8,7 +8,7 @@ ghost use Rattle.cell_voltage_range.specs.CellVoltageRange.{decoded_cell_voltage
 use frame::{Check, Refusal};
 
 // Thousandths of a volt.
-#[derive(Drop)]
+#[derive(Clone, Copy)]
 pub struct CellVoltageRangeCounts {
     pub highest_voltage: u16,
     pub highest_cell: u8,
@@ -16,7 +16,7 @@ pub struct CellVoltageRangeCounts {
     pub lowest_cell: u8,
 }
 
-#[derive(Drop)]
+#[derive(Clone, Copy)]
 pub struct CellVoltageRange {
     pub highest_voltage: f32,
     pub highest_cell: u8,
@@ -24,13 +24,13 @@ pub struct CellVoltageRange {
     pub lowest_cell: u8,
 }
 
-#[derive(Drop)]
+#[derive(Clone, Copy)]
 pub enum CellVoltageRangeCountsAnswer {
     CellVoltageRangeCountsGiven(CellVoltageRangeCounts),
     CellVoltageRangeCountsRefused(Refusal),
 }
 
-#[derive(Drop)]
+#[derive(Clone, Copy)]
 pub enum CellVoltageRangeAnswer {
     CellVoltageRangeGiven(CellVoltageRange),
     CellVoltageRangeRefused(Refusal),

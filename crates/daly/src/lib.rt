@@ -23,7 +23,7 @@ pub extern "C" fn daly_calc_crc(buffer: &[u8]) -> u8
 
 // 0, or why a frame is not sound; and whether a sound one is an echo.
 #[repr(C)]
-#[derive(Drop)]
+#[derive(Clone, Copy)]
 pub struct FrameKindTold {
     pub number: u8,
     pub echo: bool,

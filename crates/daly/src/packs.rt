@@ -6,7 +6,7 @@ ghost use Rattle.daly.specs.Packs.{pack_told};
 use pack::PackAnswer;
 
 #[repr(C)]
-#[derive(Drop)]
+#[derive(Clone, Copy)]
 pub struct PackTold {
     pub number: u8,
     pub agrees: bool,

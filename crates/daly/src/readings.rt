@@ -16,7 +16,7 @@ use reading::{
 };
 
 #[repr(C)]
-#[derive(Drop)]
+#[derive(Clone, Copy)]
 pub struct SocTold {
     pub number: u8,
     pub total_voltage: f32,
@@ -25,7 +25,7 @@ pub struct SocTold {
 }
 
 #[repr(C)]
-#[derive(Drop)]
+#[derive(Clone, Copy)]
 pub struct SocCountsTold {
     pub number: u8,
     pub total_voltage: u16,
@@ -34,7 +34,7 @@ pub struct SocCountsTold {
 }
 
 #[repr(C)]
-#[derive(Drop)]
+#[derive(Clone, Copy)]
 pub struct CellVoltageRangeTold {
     pub number: u8,
     pub highest_voltage: f32,
@@ -44,7 +44,7 @@ pub struct CellVoltageRangeTold {
 }
 
 #[repr(C)]
-#[derive(Drop)]
+#[derive(Clone, Copy)]
 pub struct CellVoltageRangeCountsTold {
     pub number: u8,
     pub highest_voltage: u16,
@@ -54,7 +54,7 @@ pub struct CellVoltageRangeCountsTold {
 }
 
 #[repr(C)]
-#[derive(Drop)]
+#[derive(Clone, Copy)]
 pub struct TemperatureRangeTold {
     pub number: u8,
     pub highest_temperature: i8,
@@ -64,7 +64,7 @@ pub struct TemperatureRangeTold {
 }
 
 #[repr(C)]
-#[derive(Drop)]
+#[derive(Clone, Copy)]
 pub struct MosfetStatusTold {
     pub number: u8,
     pub mode: u8,
@@ -75,7 +75,7 @@ pub struct MosfetStatusTold {
 }
 
 #[repr(C)]
-#[derive(Drop)]
+#[derive(Clone, Copy)]
 pub struct MosfetStatusCountsTold {
     pub number: u8,
     pub mode: u8,
@@ -86,7 +86,7 @@ pub struct MosfetStatusCountsTold {
 }
 
 #[repr(C)]
-#[derive(Drop)]
+#[derive(Clone, Copy)]
 pub struct StatusTold {
     pub number: u8,
     pub cells: u8,

@@ -7,7 +7,7 @@ ghost use Rattle.mosfet_status.specs.MosfetStatus.{decoded_mosfet_status_counts,
 
 use frame::{Check, Refusal};
 
-#[derive(Drop)]
+#[derive(Clone, Copy)]
 pub enum MosfetMode {
     Stationary,
     Charging,
@@ -15,7 +15,7 @@ pub enum MosfetMode {
 }
 
 // The capacity in thousandths of an ampere-hour.
-#[derive(Drop)]
+#[derive(Clone, Copy)]
 pub struct MosfetStatusCounts {
     pub mode: MosfetMode,
     pub charging_mosfet: bool,
@@ -24,7 +24,7 @@ pub struct MosfetStatusCounts {
     pub capacity_ah: u32,
 }
 
-#[derive(Drop)]
+#[derive(Clone, Copy)]
 pub struct MosfetStatus {
     pub mode: MosfetMode,
     pub charging_mosfet: bool,
@@ -33,13 +33,13 @@ pub struct MosfetStatus {
     pub capacity_ah: f32,
 }
 
-#[derive(Drop)]
+#[derive(Clone, Copy)]
 pub enum MosfetStatusCountsAnswer {
     MosfetStatusCountsGiven(MosfetStatusCounts),
     MosfetStatusCountsRefused(Refusal),
 }
 
-#[derive(Drop)]
+#[derive(Clone, Copy)]
 pub enum MosfetStatusAnswer {
     MosfetStatusGiven(MosfetStatus),
     MosfetStatusRefused(Refusal),

@@ -21,7 +21,7 @@ pub mod tally;
 
 // A reader's numbers: what it was asked for, what it has counted (the tally, whose places `tally` names), and how much of its array is in use.
 #[repr(C)]
-#[derive(Drop)]
+#[derive(Clone, Copy)]
 pub struct Counts {
     pub command: u8,
     pub mark: bool,
@@ -35,7 +35,7 @@ pub struct Counts {
 // The numbers without the tally: a push takes them by value, and the tally where it lies. Counts that are copied to and fro are slow: they are stored
 // one by one and loaded several at once.
 #[repr(C)]
-#[derive(Drop)]
+#[derive(Clone, Copy)]
 pub struct Standing {
     pub command: u8,
     pub mark: bool,
@@ -47,7 +47,7 @@ pub struct Standing {
 
 // The collected frames stand at the start of `frames`, and the bytes held right behind them.
 #[repr(C)]
-#[derive(Drop)]
+#[derive(Clone, Copy)]
 pub struct FrameReader {
     pub counts: Counts,
     pub frames: [u8; 1105],
@@ -55,7 +55,7 @@ pub struct FrameReader {
 
 // What a new reader begins with: 0, 6 or 7, and its numbers.
 #[repr(C)]
-#[derive(Drop)]
+#[derive(Clone, Copy)]
 pub struct Opening {
     pub number: u8,
     pub counts: Counts,
@@ -63,7 +63,7 @@ pub struct Opening {
 
 // A new reader, and 0, 6 or 7.
 #[repr(C)]
-#[derive(Drop)]
+#[derive(Clone, Copy)]
 pub struct Opened {
     pub number: u8,
     pub reader: FrameReader,
@@ -71,7 +71,7 @@ pub struct Opened {
 
 // What a push says: 0, 2 or 8, and how many bytes of the chunk it took.
 #[repr(C)]
-#[derive(Drop)]
+#[derive(Clone, Copy)]
 pub struct Said {
     pub status: u8,
     pub took: usize,
@@ -79,7 +79,7 @@ pub struct Said {
 
 // What it answers beside the frames and the tally, where those are lent.
 #[repr(C)]
-#[derive(Drop)]
+#[derive(Clone, Copy)]
 pub struct Went {
     pub said: Said,
     pub standing: Standing,
@@ -87,7 +87,7 @@ pub struct Went {
 
 // What it answers beside the frames, where those are lent and the numbers are not.
 #[repr(C)]
-#[derive(Drop)]
+#[derive(Clone, Copy)]
 pub struct Told {
     pub said: Said,
     pub counts: Counts,
@@ -95,7 +95,7 @@ pub struct Told {
 
 // What a push says to one who reads the line: that, and how many bytes the next frame then still needs.
 #[repr(C)]
-#[derive(Drop)]
+#[derive(Clone, Copy)]
 pub struct Turn {
     pub status: u8,
     pub missing: u8,
@@ -104,7 +104,7 @@ pub struct Turn {
 
 // What it then answers beside the frames and the tally.
 #[repr(C)]
-#[derive(Drop)]
+#[derive(Clone, Copy)]
 pub struct Turned {
     pub turn: Turn,
     pub standing: Standing,
@@ -112,7 +112,7 @@ pub struct Turned {
 
 // What it answers by value.
 #[repr(C)]
-#[derive(Drop)]
+#[derive(Clone, Copy)]
 pub struct Pushed {
     pub said: Said,
     pub reader: FrameReader,
@@ -120,7 +120,7 @@ pub struct Pushed {
 
 // 0 or 8, and the bytes that the next frame still needs.
 #[repr(C)]
-#[derive(Drop)]
+#[derive(Clone, Copy)]
 pub struct Missing {
     pub number: u8,
     pub missing: usize,
@@ -128,7 +128,7 @@ pub struct Missing {
 
 // 0 or 8, and whether all wanted frames are there.
 #[repr(C)]
-#[derive(Drop)]
+#[derive(Clone, Copy)]
 pub struct Completed {
     pub number: u8,
     pub complete: bool,

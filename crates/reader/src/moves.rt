@@ -8,7 +8,7 @@ use crate::scan::{copy, is_noise, scan};
 use crate::tally::{NOISE, add_count};
 
 // What a push came to: the bytes taken and discarded, the frames collected, the bytes held. What it counted stands in the tally that it was lent.
-#[derive(Drop)]
+#[derive(Clone, Copy)]
 pub struct Moved {
     pub took: usize,
     pub lost: usize,

@@ -10,7 +10,7 @@ ghost use Rattle.reader.specs.Steps.{Ran, Quiet};
 use crate::tally::{CLEARED, COMMAND, ECHO, NOISE, NUMBER, SUM, add_count};
 
 // Where a scan has come to: the place in the slice, the bytes discarded, and the frames collected.
-#[derive(Drop)]
+#[derive(Clone, Copy)]
 pub struct Progress {
     pub at: usize,
     pub lost: usize,

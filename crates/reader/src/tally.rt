@@ -20,7 +20,7 @@ pub const CLEARED: usize = 6;
 
 // Why bytes were discarded: "bytes before A5, bytes after a wrong sum, wrong command, wrong number, echo" (document 02, K3).
 #[repr(C)]
-#[derive(Drop)]
+#[derive(Clone, Copy)]
 pub struct Discarded {
     pub noise: u32,
     pub sum: u32,

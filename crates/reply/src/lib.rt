@@ -16,7 +16,7 @@ use report::Tally;
 
 // How many of the first two bytes have come, these two, and the numbers of the reader that the rest goes to. The reader's frames
 // are lent beside it.
-#[derive(Drop)]
+#[derive(Clone, Copy)]
 pub struct Input {
     pub seen: u8,
     pub command: u8,

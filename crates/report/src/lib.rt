@@ -11,7 +11,7 @@ mod fields;
 mod lists;
 
 // What a reader counted over the stream, the bytes it holds and the frames it has collected; then why bytes were discarded.
-#[derive(Drop)]
+#[derive(Clone, Copy)]
 pub struct Tally {
     pub taken: u32,
     pub held: usize,

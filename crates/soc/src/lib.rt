@@ -7,27 +7,27 @@ ghost use Rattle.soc.specs.Soc.{soc_counts, soc_of, decoded_soc_counts, decoded_
 use frame::{Check, Refusal};
 
 // Tenths of a volt, of an ampere and of a percent.
-#[derive(Drop)]
+#[derive(Clone, Copy)]
 pub struct SocCounts {
     pub total_voltage: u16,
     pub current: i32,
     pub soc_percent: u16,
 }
 
-#[derive(Drop)]
+#[derive(Clone, Copy)]
 pub struct Soc {
     pub total_voltage: f32,
     pub current: f32,
     pub soc_percent: f32,
 }
 
-#[derive(Drop)]
+#[derive(Clone, Copy)]
 pub enum SocCountsAnswer {
     SocCountsGiven(SocCounts),
     SocCountsRefused(Refusal),
 }
 
-#[derive(Drop)]
+#[derive(Clone, Copy)]
 pub enum SocAnswer {
     SocGiven(Soc),
     SocRefused(Refusal),

@@ -6,7 +6,7 @@ ghost use Rattle.status.specs.Status.{io_state, status_of, decoded_status};
 
 use frame::{Check, Refusal};
 
-#[derive(Drop)]
+#[derive(Clone, Copy)]
 pub struct IOState {
     pub di1: bool,
     pub di2: bool,
@@ -18,7 +18,7 @@ pub struct IOState {
     pub do4: bool,
 }
 
-#[derive(Drop)]
+#[derive(Clone, Copy)]
 pub struct Status {
     pub cells: u8,
     pub temperature_sensors: u8,
@@ -28,7 +28,7 @@ pub struct Status {
     pub cycles: u16,
 }
 
-#[derive(Drop)]
+#[derive(Clone, Copy)]
 pub enum StatusAnswer {
     StatusGiven(Status),
     StatusRefused(Refusal),

@@ -7,7 +7,7 @@ ghost use Rattle.temperature_range.specs.TemperatureRange.{as_i8, temperature_of
 use frame::{Check, Refusal};
 
 // Degrees.
-#[derive(Drop)]
+#[derive(Clone, Copy)]
 pub struct TemperatureRange {
     pub highest_temperature: i8,
     pub highest_sensor: u8,
@@ -15,7 +15,7 @@ pub struct TemperatureRange {
     pub lowest_sensor: u8,
 }
 
-#[derive(Drop)]
+#[derive(Clone, Copy)]
 pub enum TemperatureRangeAnswer {
     TemperatureRangeGiven(TemperatureRange),
     TemperatureRangeRefused(Refusal),

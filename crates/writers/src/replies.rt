@@ -12,7 +12,7 @@ use writing::{MosfetStatusWire, SocWire};
 
 // The decoders' records have another layout in C: a number stands before the fields, and 94 has its eight states in a struct.
 #[repr(C)]
-#[derive(Drop)]
+#[derive(Clone, Copy)]
 pub struct CellVoltageRangeWire {
     pub highest_voltage: u16,
     pub highest_cell: u8,
@@ -21,7 +21,7 @@ pub struct CellVoltageRangeWire {
 }
 
 #[repr(C)]
-#[derive(Drop)]
+#[derive(Clone, Copy)]
 pub struct TemperatureRangeWire {
     pub highest_temperature: i8,
     pub highest_sensor: u8,
@@ -30,7 +30,7 @@ pub struct TemperatureRangeWire {
 }
 
 #[repr(C)]
-#[derive(Drop)]
+#[derive(Clone, Copy)]
 pub struct StatusWire {
     pub cells: u8,
     pub temperature_sensors: u8,

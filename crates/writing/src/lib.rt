@@ -14,7 +14,7 @@ use wire::{high_byte, low_byte};
 
 // As on the wire: tenths, those of an ampere 30,000 more than they are.
 #[repr(C)]
-#[derive(Drop)]
+#[derive(Clone, Copy)]
 pub struct SocWire {
     pub total_voltage: u16,
     pub current: u16,
@@ -23,7 +23,7 @@ pub struct SocWire {
 
 // The mode as its byte; thousandths of an ampere-hour.
 #[repr(C)]
-#[derive(Drop)]
+#[derive(Clone, Copy)]
 pub struct MosfetStatusWire {
     pub mode: u8,
     pub charging_mosfet: bool,

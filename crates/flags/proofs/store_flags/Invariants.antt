@@ -1,0 +1,12 @@
+use mathlib.Core.Path.{refl}
+use Prim.Native.Nat.{◌-◌}
+use Rattle.flags.specs.Balance.{flag_at}
+use Rattle.list.proofs.Filling.{Filled, filled_none, filled_more, filled_all}
+use borrow.Author.Rules.{rules}
+use Rattle.flags.proofs.store_flags.Given as goal
+
+abbrev pub invariant-loop-i : goal.invariant-loop-i
+invariant-loop-i l = Filled (flag_at l.reply) l.n l.initial.out 0 l.out l.i
+
+abbrev pub decreases-loop-i : goal.decreases-loop-i
+decreases-loop-i l = l.n - l.i

@@ -1,0 +1,6 @@
+use borrow.Author.Rules.{rules}
+use Rattle.writing.proofs.soc_reply.Goals as goal
+
+pub returns : goal.returns
+returns c =
+    rw (c.low_byte-3.ensures, c.high_byte-3.ensures, c.low_byte-2.ensures, c.high_byte-2.ensures, c.low_byte.ensures, c.high_byte.ensures) at c.framed.ensures

@@ -1,0 +1,5 @@
+use borrow.Author.Rules.{rules}
+use Rattle.writing.proofs.write_acknowledgement.Goals as goal
+
+pub returns : goal.returns
+returns c = rw c.framed.ensures at c.write_frame.ensures

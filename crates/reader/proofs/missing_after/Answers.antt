@@ -1,4 +1,4 @@
-use Rattle.std.proofs.Common.{arith, rules}
+use Rattle.std.proofs.Common.{arith}
 use Rattle.reader.proofs.missing_after.Goals as goal
 
 pub overflow_sub-result : goal.overflow_sub-result

@@ -1,4 +1,4 @@
-use Rattle.std.proofs.Common.{length, rules, le-ltb, lt-ltb}
+use Rattle.std.proofs.Common.{length, le-ltb, lt-ltb}
 use Rattle.reader.proofs.open_counts.Goals as goal
 
 pub returns-then-request-lt3 : goal.returns-then-request-lt3

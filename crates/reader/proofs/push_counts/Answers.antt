@@ -1,4 +1,3 @@
-use Rattle.std.proofs.Common.{rules}
 use Rattle.reader.proofs.push_counts.Goals as goal
 
 pub returns : goal.returns

@@ -1,4 +1,3 @@
-use Rattle.std.proofs.Common.{rules}
 use Rattle.reader.specs.View.{counted}
 use Rattle.reader.proofs.Turning.{holds_few, missing-told}
 use Rattle.reader.proofs.turn_into.Goals as goal

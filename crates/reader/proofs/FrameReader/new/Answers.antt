@@ -1,4 +1,4 @@
-use Rattle.std.proofs.Common.{replicate, rules}
+use Rattle.std.proofs.Common.{replicate}
 use Rattle.reader.proofs.FrameReader.new.Goals as goal
 
 pub returns : goal.returns

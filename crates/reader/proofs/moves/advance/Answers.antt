@@ -12,7 +12,7 @@ returns-then-held-eq0 c =
 
 pub copy-requires : goal.copy-requires
 copy-requires c =
-    let full : length c.args.frames.now ≡ 1105 = c.copy-arg-1.given.0.1 in
+    let full : length c.args.frames.now ≡ 1105 = search rules in
     let z = c.requires.3 (omega (arith, c.if-held-eq0.false)) in
     (omega (arith, z, c.requires.1, c.if-len-held.true), omega arith)
 
@@ -20,7 +20,7 @@ pub returns-then-len-held : goal.returns-then-len-held
 returns-then-len-held c =
     let a = c.args in
     let z : 0 < a.held = omega (arith, c.if-held-eq0.false) in
-    let full : length a.frames.now ≡ 1105 = c.copy-arg-1.given.0.1 in
+    let full : length a.frames.now ≡ 1105 = search rules in
     let b : a.held + length a.chunk.now ≤ 12 = omega (arith, c.if-len-held.true) in
     let g = held_more a.frames.now a.chunk.now a.collected a.held (omega (arith, c.requires.3 z, c.requires.1)) b in
     rw c.copy.ensures

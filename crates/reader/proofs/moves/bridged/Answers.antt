@@ -1,4 +1,4 @@
-use Rattle.std.proofs.Common.{◌≡◌, ℕ, ◌-◌, ◌*◌, List, length, take, drop, ap, arith, length-append, length-take, rules}
+use Rattle.std.proofs.Common.{◌≡◌, ℕ, ◌-◌, ◌*◌, List, length, take, drop, ap, arith, length-append, length-take}
 use Rattle.reader.specs.View.{config, front}
 use Rattle.reader.proofs.Turns.{is_open}
 use Rattle.reader.proofs.Parts.{length_front}
@@ -11,8 +11,8 @@ slice_bounds-scan-end c =
 
 pub hold_bridge-k-requires : goal.hold_bridge-k-requires
 hold_bridge-k-requires c =
-    let a = c.BEFORE?.before.args in
-    let pre = c.BEFORE?.before.requires in
+    let a = c.args in
+    let pre = c.requires in
     let f : List ℕ = front a.held (drop (13 * a.collected) a.frames.now) in
     let lf : length f ≡ a.held = length_front a.held (drop (13 * a.collected) a.frames.now) in
     let e = c.bridge-m.ensures.0 in
@@ -28,8 +28,8 @@ hold_bridge-k-requires c =
 
 pub returns-then-stop-held : goal.returns-then-stop-held
 returns-then-stop-held c =
-    let a = c.BEFORE?.before.args in
-    let pre = c.BEFORE?.before.requires in
+    let a = c.args in
+    let pre = c.requires in
     let f : List ℕ = front a.held (drop (13 * a.collected) a.frames.now) in
     let lf : length f ≡ a.held = length_front a.held (drop (13 * a.collected) a.frames.now) in
     let e = c.bridge-m.ensures.0 in
@@ -39,8 +39,8 @@ returns-then-stop-held c =
 
 pub direct-q-requires : goal.direct-q-requires
 direct-q-requires c =
-    let a = c.BEFORE?.before.args in
-    let pre = c.BEFORE?.before.requires in
+    let a = c.args in
+    let pre = c.requires in
     let f : List ℕ = front a.held (drop (13 * a.collected) a.frames.now) in (
       omega (arith, c.scan-p.ensures.within, ap length c.bridge-m.ensures.0, length-append f (take 12 a.chunk.now), length-take 12 a.chunk.now, length_front a.held (drop (13 * a.collected) a.frames.now)),
       c.scan-p.ensures.few,
@@ -50,13 +50,12 @@ direct-q-requires c =
 
 pub overflow_add-result : goal.overflow_add-result
 overflow_add-result c =
-    let st = c.BEFORE?.before in
-    record { fits = omega (arith, c.direct-q.ensures.1, c.scan-p.ensures.less, c.scan-p.ensures.within, length-take c.bridge-m.result c.bridge-m.new.w, c.bridge-m.ensures.1, st.well-formed.1.1.0.1) }
+    record { fits = omega (arith, c.direct-q.ensures.1, c.scan-p.ensures.less, c.scan-p.ensures.within, length-take c.bridge-m.result c.bridge-m.new.w, c.bridge-m.ensures.1, c.well_formed.1.1.0.1) }
 
 pub returns : goal.returns
 returns c =
-    let a = c.BEFORE?.before.args in
-    let pre = c.BEFORE?.before.requires in
+    let a = c.args in
+    let pre = c.requires in
     let f : List ℕ = front a.held (drop (13 * a.collected) a.frames.now) in
     let lf : length f ≡ a.held = length_front a.held (drop (13 * a.collected) a.frames.now) in
     let e = c.bridge-m.ensures.0 in

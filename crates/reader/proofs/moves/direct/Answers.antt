@@ -1,4 +1,4 @@
-use Rattle.std.proofs.Common.{arith, rules}
+use Rattle.std.proofs.Common.{arith}
 use Rattle.reader.proofs.Ways.{ran_short, moves-complete, moves_open, moves-noise}
 use Rattle.reader.proofs.moves.direct.Goals as goal
 

@@ -5,7 +5,7 @@ use Rattle.reader.proofs.moves.hold_bridge.Goals as goal
 pub returns : goal.returns
 returns c =
     let a = c.args in
-    let full : length a.frames.now ≡ 1105 = c.copy-arg-1.given.0.1 in
-    let wide : length a.w.now ≡ 24 = c.copy-arg-2-1.given.0 in
+    let full : length a.frames.now ≡ 1105 = search rules in
+    let wide : length a.w.now ≡ 24 = search rules in
     rw c.copy.ensures
     (held-bridge a.frames.now a.w.now a.collected a.at a.m (omega (arith, full, c.requires.4)) (omega (arith, wide, c.requires.0)) c.requires.1 c.requires.2)

@@ -1,5 +1,5 @@
-use Rattle.std.proofs.Common.{◌≡◌, ◌+◌, ◌-◌, ◌≤◌, length, drop, refl, ◌∙◌, arith, length-set, rules}
-use lib.Seq.{paste, paste-zero}
+use Rattle.std.proofs.Common.{◌≡◌, ◌+◌, drop, refl, ◌∙◌, arith, length-set}
+use lib.Seq.{paste-zero}
 use Rattle.wire.proofs.Copying.{copy-one, copy_step_from}
 use Rattle.reader.proofs.scan.copy.Goals as goal
 

@@ -1,6 +1,5 @@
-use Rattle.std.proofs.Common.{◌≡◌, ◌+◌, ◌-◌, ◌≤◌, length, drop, refl, ◌∙◌, arith, length-set, rules}
-use lib.Seq.{paste, paste-zero}
-use Rattle.wire.proofs.Copying.{copy-one, copy_step_from}
+use Rattle.std.proofs.Common.{◌≡◌, ◌-◌, ◌≤◌, length, drop}
+use lib.Seq.{paste}
 use Rattle.reader.proofs.scan.copy.Given as goal
 
 abbrev pub invariant-loop-i : goal.invariant-loop-i

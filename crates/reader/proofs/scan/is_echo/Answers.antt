@@ -1,4 +1,3 @@
-use Rattle.std.proofs.Common.{rules}
 use Rattle.reader.proofs.scan.is_echo.Goals as goal
 
 pub returns-then-strict : goal.returns-then-strict

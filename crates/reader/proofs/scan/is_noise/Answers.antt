@@ -1,5 +1,4 @@
-use Rattle.std.proofs.Common.{◌≡◌, ℕ, ◌-◌, ◌≤◌, length, get_or, sym, true≢false, arith, rules, below_more}
-use Rattle.reader.specs.Steps.{Quiet}
+use Rattle.std.proofs.Common.{◌≡◌, ℕ, ◌≤◌, get_or, sym, true≢false, arith, below_more}
 use Rattle.reader.proofs.Noise.{quiet_none}
 use Rattle.reader.proofs.scan.is_noise.Goals as goal
 
@@ -10,12 +9,11 @@ pub returns-then-s-i : goal.returns-then-s-i
 returns-then-s-i c = λ e. absurd (true≢false (sym e))
 
 pub loop-i-preserved : goal.loop-i-preserved
-loop-i-preserved c =
-    (
-      omega (arith, c.loop-i.invariant.0),
-      omega arith,
-      below_more (λ (k : ℕ). c.args.from ≤ k → get_or c.args.s.now k 0 ≡ 165 → ⊥) _ c.loop-i.invariant.2 (λ j. c.if-s-i.false),
-    )
+loop-i-preserved c = (
+  omega (arith, c.loop-i.invariant.0),
+  omega arith,
+  below_more (λ (k : ℕ). c.args.from ≤ k → get_or c.args.s.now k 0 ≡ 165 → ⊥) _ c.loop-i.invariant.2 (λ j. c.if-s-i.false),
+)
 
 pub returns : goal.returns
 returns c = λ e k h. c.loop-i.invariant.2 k (omega (arith, c.loop-i-test.false))

@@ -1,6 +1,5 @@
-use Rattle.std.proofs.Common.{◌≡◌, ℕ, ◌-◌, ◌≤◌, length, get_or, sym, true≢false, arith, rules, below_more}
+use Rattle.std.proofs.Common.{◌-◌, ◌≤◌, length}
 use Rattle.reader.specs.Steps.{Quiet}
-use Rattle.reader.proofs.Noise.{quiet_none}
 use Rattle.reader.proofs.scan.is_noise.Given as goal
 
 abbrev pub invariant-loop-i : goal.invariant-loop-i

@@ -1,5 +1,4 @@
-use Rattle.reader.proofs.Noise.{quiet_more}
-use Rattle.std.proofs.Common.{◌≡◌, ◌+◌, ◌-◌, ◌≤◌, sym, ◌∙◌, ⊎_elim, arith, rules, eqb-true}
+use Rattle.std.proofs.Common.{◌≡◌, ◌+◌, ◌-◌, ◌≤◌}
 use Rattle.reader.specs.Steps.{Quiet}
 use Rattle.reader.proofs.scan.is_quiet.Given as goal
 

@@ -1,4 +1,4 @@
-use Rattle.std.proofs.Common.{ℕ, false, eqb, ap, ◌∙◌, rules}
+use Rattle.std.proofs.Common.{ℕ, false, eqb, ap, ◌∙◌}
 use Rattle.wire.specs.Bytes.{byte_at}
 use Rattle.reader.specs.View.{config}
 use Rattle.reader.proofs.Judge.{sums}

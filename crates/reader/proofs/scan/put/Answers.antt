@@ -1,4 +1,4 @@
-use Rattle.std.proofs.Common.{ℕ, List, replicate, ap, ◌∙◌, rules}
+use Rattle.std.proofs.Common.{ℕ, List, replicate, ap, ◌∙◌}
 use lib.Seq.{paste}
 use Rattle.reader.proofs.Parts.{put_is}
 use Rattle.reader.proofs.scan.put.Goals as goal

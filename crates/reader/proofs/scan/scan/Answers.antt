@@ -1,11 +1,8 @@
-use Rattle.std.proofs.Common.{◌≡◌, ◌+◌, ◌-◌, ◌*◌, ◌<◌, ◌≤◌, length, drop, sym, ◌∙◌, arith, rules}
-use Rattle.rules.specs.Ledger.{run}
-use Rattle.reader.specs.View.{chop}
+use Rattle.std.proofs.Common.{◌≡◌, ◌+◌, ◌*◌, ◌≤◌, length, sym, ◌∙◌, arith, rules}
 use Rattle.reader.specs.View.{config}
 use Rattle.reader.proofs.Noise.{quiet_first}
-use borrow.Author.Tests.{not-false, not-true}
 use Rattle.reader.proofs.Parts.{length_cut}
-use Rattle.reader.proofs.Turns.{Here, here-start, here_quiet, here-summed, here-discarded, here-collected, here_end, end-complete, end-bytes, end_short}
+use Rattle.reader.proofs.Turns.{here-start, here_quiet, here-summed, here-discarded, here-collected, here_end, end-complete, end-bytes, end_short}
 use Rattle.reader.proofs.scan.scan.Goals as goal
 
 pub loop-at-init : goal.loop-at-init
@@ -33,7 +30,7 @@ loop-at-preserved-then-not-is_summed c =
     let b : l.at + 13 ≤ length a.s.now = omega (arith, c.if-end-at-lt13.false) in (
       here-summed _ _ _ a.s.now _ _ l.at _ _ l.invariant.0
           c.if-wanted-have.false b c.if-s-at.false
-          c.add_count-then-not-is_summed.result (sym c.is_summed.ensures ∙ not-true _ c.if-not-is_summed.true) c.add_count-then-not-is_summed.ensures,
+          c.add_count-then-not-is_summed.result (sym c.is_summed.ensures ∙ c.if-not-is_summed.true) c.add_count-then-not-is_summed.ensures,
       omega arith,
       omega (arith, l.invariant.2),
       l.invariant.3,
@@ -44,7 +41,7 @@ seat_of-seat-requires c =
     let l = c.loop-at in
     let a = c.args in
     let b : l.at + 13 ≤ length a.s.now = omega (arith, c.if-end-at-lt13.false) in
-    (length_cut a.s.now l.at b, omega (arith, c.if-wanted-have.false, c.requires.2), sym c.is_summed.ensures ∙ not-false _ c.if-not-is_summed.false)
+    (length_cut a.s.now l.at b, omega (arith, c.if-wanted-have.false, c.requires.2), sym c.is_summed.ensures ∙ c.if-not-is_summed.false)
 
 pub loop-at-preserved-then-seat-eq0 : goal.loop-at-preserved-then-seat-eq0
 loop-at-preserved-then-seat-eq0 c =
@@ -54,7 +51,7 @@ loop-at-preserved-then-seat-eq0 c =
     let k = c.staying-k in
     let st = k.ensures in
     let b : l.at + 13 ≤ length a.s.now = omega (arith, c.if-end-at-lt13.false) in
-    let full : length l.frames ≡ 1105 = c.put-arg-1.given.0.1 in
+    let full : length l.frames ≡ 1105 = search rules in
     let room : 13 * k.result + 13 ≤ length l.frames = omega (arith, full, c.if-wanted-have.false, st.1) in (
       here-collected _ _ _ a.s.now _ _ l.at _ _ l.invariant.0
           c.if-wanted-have.false b c.if-s-at.false

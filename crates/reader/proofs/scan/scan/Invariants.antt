@@ -1,11 +1,8 @@
-use Rattle.std.proofs.Common.{◌≡◌, ◌+◌, ◌-◌, ◌*◌, ◌<◌, ◌≤◌, length, drop, sym, ◌∙◌, arith, rules}
+use Rattle.std.proofs.Common.{◌-◌, ◌≤◌, length, drop}
 use Rattle.rules.specs.Ledger.{run}
 use Rattle.reader.specs.View.{chop}
 use Rattle.reader.specs.View.{config}
-use Rattle.reader.proofs.Noise.{quiet_first}
-use borrow.Author.Tests.{not-false, not-true}
-use Rattle.reader.proofs.Parts.{length_cut}
-use Rattle.reader.proofs.Turns.{Here, here-start, here_quiet, here-summed, here-discarded, here-collected, here_end, end-complete, end-bytes, end_short}
+use Rattle.reader.proofs.Turns.{Here}
 use Rattle.reader.proofs.scan.scan.Given as goal
 
 abbrev pub invariant-loop-at : goal.invariant-loop-at

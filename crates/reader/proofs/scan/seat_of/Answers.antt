@@ -1,4 +1,4 @@
-use Rattle.std.proofs.Common.{sym, ◌∙◌, arith, rules}
+use Rattle.std.proofs.Common.{sym, ◌∙◌, arith}
 use Rattle.reader.specs.View.{config}
 use Rattle.reader.proofs.Judge.{due_command, due_echo, due_one, due_first, due_number, due_place}
 use Rattle.reader.proofs.scan.seat_of.Goals as goal

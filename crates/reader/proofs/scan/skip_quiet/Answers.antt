@@ -1,7 +1,5 @@
 use Rattle.reader.proofs.Noise.{quiet_none, quiet_then}
-use Rattle.reader.specs.Steps.{Quiet}
-use borrow.Author.Tests.{not-false}
-use Rattle.std.proofs.Common.{◌+◌, ◌-◌, ◌≤◌, length, arith, rules}
+use Rattle.std.proofs.Common.{◌+◌, arith}
 use Rattle.reader.proofs.scan.skip_quiet.Goals as goal
 
 pub loop-i-init : goal.loop-i-init
@@ -13,5 +11,5 @@ loop-i-preserved c =
     let a = c.args in (
       omega (arith, l.invariant.0),
       omega (arith, c.loop-i-test.true),
-      quiet_then a.s.now a.from l.i (l.i + 32) l.invariant.2 (c.is_quiet.ensures (not-false _ c.if-not-is_quiet.false)),
+      quiet_then a.s.now a.from l.i (l.i + 32) l.invariant.2 (c.is_quiet.ensures c.if-not-is_quiet.false),
     )

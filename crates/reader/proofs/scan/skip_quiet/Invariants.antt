@@ -1,7 +1,5 @@
-use Rattle.reader.proofs.Noise.{quiet_none, quiet_then}
 use Rattle.reader.specs.Steps.{Quiet}
-use borrow.Author.Tests.{not-false}
-use Rattle.std.proofs.Common.{◌+◌, ◌-◌, ◌≤◌, length, arith, rules}
+use Rattle.std.proofs.Common.{◌-◌, ◌≤◌, length}
 use Rattle.reader.proofs.scan.skip_quiet.Given as goal
 
 abbrev pub invariant-loop-i : goal.invariant-loop-i

@@ -1,5 +1,4 @@
-use Rattle.reader.specs.Steps.{Quiet}
-use Rattle.std.proofs.Common.{◌≡◌, ℕ, ◌-◌, ◌≤◌, length, get_or, arith, rules, below_more}
+use Rattle.std.proofs.Common.{◌≡◌, ℕ, ◌≤◌, get_or, arith, below_more}
 use Rattle.reader.proofs.scan.start_from.Goals as goal
 
 pub loop-i-init : goal.loop-i-init

@@ -1,5 +1,5 @@
 use Rattle.reader.specs.Steps.{Quiet}
-use Rattle.std.proofs.Common.{◌≡◌, ℕ, ◌-◌, ◌≤◌, length, get_or, arith, rules, below_more}
+use Rattle.std.proofs.Common.{◌-◌, ◌≤◌, length}
 use Rattle.reader.proofs.scan.start_from.Given as goal
 
 abbrev pub invariant-loop-i : goal.invariant-loop-i

@@ -1,4 +1,4 @@
-use Rattle.std.proofs.Common.{arith, rules}
+use Rattle.std.proofs.Common.{arith}
 use Rattle.reader.proofs.Judge.{stay-one, stay_none, stay_all}
 use Rattle.reader.proofs.scan.staying.Goals as goal
 

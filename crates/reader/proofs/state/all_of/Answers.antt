@@ -1,4 +1,4 @@
-use Rattle.std.proofs.Common.{ap, ◌∙◌, rules}
+use Rattle.std.proofs.Common.{ap, ◌∙◌}
 use Rattle.rules.specs.Reader.{all_of}
 use Rattle.reader.specs.View.{reasons}
 use Rattle.reader.specs.declared.tally.Discarded.{Discarded}

@@ -1,4 +1,4 @@
-use Rattle.std.proofs.Common.{◌≡◌, ℕ, ◌+◌, ◌-◌, ◌≤◌, Bool, true, false, ltb, sym, refl, arith, rules, ltb-false, ltb-true, le-ltb, lt-ltb}
+use Rattle.std.proofs.Common.{◌≡◌, ℕ, ◌+◌, ◌-◌, ◌≤◌, Bool, true, false, ltb, sym, refl, arith, ltb-false, ltb-true, le-ltb, lt-ltb}
 use Rattle.reader.proofs.state.passed.Goals as goal
 
 -- what is left to 512, and the sum

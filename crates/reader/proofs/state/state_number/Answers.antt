@@ -1,4 +1,4 @@
-use Rattle.std.proofs.Common.{◌∙◌, arith, rules}
+use Rattle.std.proofs.Common.{◌∙◌, arith}
 use Rattle.reader.proofs.Refusing.{numbered, recounted, any_many, too_full, too_far, empty, past, not-begun, begun}
 use Rattle.reader.specs.View.{counted}
 use Rattle.reader.proofs.state.state_number.Goals as goal

@@ -8,18 +8,16 @@ use Rattle.text.specs.Words.{word}
 use Rattle.text.specs.Text.{decimal, hex2, field, line}
 use Rattle.frame.specs.Checks.{len_check, header_check, checksum_check, frame_check}
 use Rattle.report.specs.Report.{answer_text}
-use Rattle.rules.specs.Rules.{Config, sum_right, restarts, judge, look, stay, after, drops}
+use Rattle.rules.specs.Rules.{sum_right, restarts, judge, look, stay, after, drops}
 use Rattle.rules.specs.Ledger.{turns, run, total as counted, lost_for}
 use Rattle.rules.specs.Reader.{Reader, Answer, fresh, complete, held_of, untaken, did, booked, push, bad, answer, joined, status}
 use Rattle.rules.proofs.Examples.{five, answered, c90, frame90, line90}
 use Rattle.reader.specs.View.{chop, front, view}
 use Rattle.reader.specs.Told.{fresh_counts}
-use Rattle.reader.specs.declared.Counts.{Counts}
 use Rattle.report.proofs.Examples.{example}
-use Rattle.list.specs.Numbered.{frames_for, reply_size}
 use Rattle.reply.specs.declared.Input.{Input}
-use Rattle.reply.specs.Output.{tally, known, reply_size_for, wanted_for, asked, reported, output_of}
-use Rattle.reply.specs.Input.{State, state_of, begun, streamed, from_second, from_first, pushed, printed, tally_of, Came, HoweverCut, OfSomeInput}
+use Rattle.reply.specs.Output.{tally, known, reply_size_for, asked, reported, output_of}
+use Rattle.reply.specs.Input.{State, state_of, begun, streamed, from_second, from_first, pushed, printed, tally_of, HoweverCut, OfSomeInput}
 
 -- "Input `90 00 00 A5 A5 01 90 08 02 0B 00 00 74 B7 03 6A E3` prints, whole"
 pub document_01 :

@@ -1,5 +1,5 @@
 -- What `readreply` says where it is given an argument, or a terminal to read from. Definitions only.
-use Rattle.std.specs.Prelude.{ℕ, List, [], ◌∷◌, ◌++◌}
+use Rattle.std.specs.Prelude.{ℕ, List, ◌++◌}
 use Rattle.text.specs.Words.{word}
 use Rattle.text.specs.Text.{newline}
 

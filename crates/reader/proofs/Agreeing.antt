@@ -1,7 +1,6 @@
 -- Pushes on a lent reader agree, whatever their code: their statement allows one answer. Assumes nothing.
 use Rattle.std.proofs.Common.{◌≡◌, ℕ, List, ap}
 use Rattle.wire.proofs.Decides.{both}
-use Rattle.reader.specs.View.{view}
 use Rattle.reader.specs.Lent.{AnsweredLent, TurnedLent, PushesAgree}
 use Rattle.reader.specs.declared.FrameReader.{FrameReader}
 use Rattle.reader.specs.declared.Said.{Said}

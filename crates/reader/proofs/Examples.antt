@@ -3,7 +3,7 @@ use Rattle.std.proofs.Common.{◌≡◌, ℕ, true, false, List, [], ◌∷◌, 
 use Rattle.frame.specs.Frame.{total, sum}
 use Rattle.rules.specs.Rules.{noise, wrong_sum, wrong_command, wrong_number, echo, discarded as thrown, collected, sum_right, restarts, judge, look, stay, after, drops}
 use Rattle.rules.specs.Ledger.{turns, run, total as total_of, lost_for}
-use Rattle.rules.specs.Reader.{Answer, bad, complete, held_of, untaken, did, booked, push, status, answer, missing, completeness, state_number}
+use Rattle.rules.specs.Reader.{Answer, bad, complete, held_of, untaken, did, booked, push, status, answer, missing, completeness}
 use Rattle.rules.proofs.Examples.{five, nothing, answered, c90, frame90}
 use Rattle.reader.specs.declared.Counts.{Counts}
 use Rattle.reader.specs.declared.Standing.{Standing}

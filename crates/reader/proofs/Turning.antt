@@ -1,9 +1,9 @@
 -- What is missing after a push, from its status and the reader's numbers. Assumes nothing.
-use Rattle.std.proofs.Common.{◌≡◌, ℕ, ◌-◌, ◌<◌, ◌≤◌, Bool, true, false, ltb, List, sym, refl, ap, ◌∙◌, subst, arith, ltb-false, ltb-true}
+use Rattle.std.proofs.Common.{◌≡◌, ℕ, ◌-◌, ◌<◌, ◌≤◌, Bool, true, false, ltb, List, sym, refl, ap, ◌∙◌, arith, ltb-false, ltb-true}
 use Rattle.wire.proofs.Decides.{both}
 use Rattle.rules.specs.Reader.{Reader, bad, missing, push, booked, status, state_number}
 use Rattle.rules.proofs.Demand.{bad-push}
-use Rattle.reader.specs.View.{view, counted, Answered}
+use Rattle.reader.specs.View.{view, Answered}
 use Rattle.reader.specs.Lent.{TurnedInto}
 use Rattle.reader.specs.declared.Counts.{Counts}
 use Rattle.reader.specs.declared.Missing.{Missing}

@@ -4,7 +4,7 @@ use Rattle.std.proofs.Common.{◌≡◌, ℕ, ◌+◌, ◌-◌, ◌*◌, ◌<◌
 use lib.Seq.{drop-append-le, drop-append-add}
 use Rattle.rules.specs.Rules.{Config, lost}
 use Rattle.rules.specs.Ledger.{Outcome, run, total, lost_for}
-use Rattle.rules.specs.Reader.{wrap, complete, took}
+use Rattle.rules.specs.Reader.{wrap, complete}
 use Rattle.rules.proofs.Recut.{follow, total_append, run_append, run_halts, run_completes, look_open, held-complete, held_open, untaken-complete, untaken_open}
 use Rattle.reader.specs.View.{chop}
 use Rattle.reader.specs.View.{front}

@@ -1,0 +1,8 @@
+use Rattle.text.proofs.Putting.{put_then}
+use borrow.Author.Rules.{rules}
+use Rattle.report.proofs.put_head.Goals as goal
+
+pub returns : goal.returns
+returns c =
+    let long = c.well_formed.0.0 in
+    put_then long (put_then long (put_then long c.put_word-next.ensures c.put_hex2-next.ensures) c.put_field-next.ensures) c.put_field.ensures

@@ -1,0 +1,8 @@
+use Rattle.text.proofs.Putting.{put_then, put-long}
+use borrow.Author.Rules.{rules}
+use Rattle.report.proofs.put_middle.Goals as goal
+
+pub returns : goal.returns
+returns c =
+    let long = c.well_formed.0.0 in
+    put_then long (put_then long (put_then long c.put_head-next.ensures c.put_field-next.ensures) c.put_field-next-2.ensures) c.put_field.ensures

@@ -1,0 +1,6 @@
+use borrow.Author.Rules.{rules}
+use Rattle.report.proofs.put_refusal.Goals as goal
+
+pub returns : goal.returns
+returns c =
+    rw (← c.number.ensures) c.put_line.ensures

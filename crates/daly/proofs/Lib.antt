@@ -1,5 +1,4 @@
 pub mod Asked
-pub mod Shared
 pub mod Layouts
 pub mod Examples
 pub mod Decided

@@ -32,7 +32,7 @@ use Rattle.wire.proofs.Firsts.{length-firsts}
 use Rattle.flags.specs.Balance.{flag_count, flag_at, balance_check}
 use Rattle.flags.specs.Faults.{Test, found, faults_by, fault_tests, faults, faults_check}
 use Rattle.text.specs.Words.{word}
-use Rattle.text.specs.Text.{Put, place, hex2, field, line, signed_line, newline}
+use Rattle.text.specs.Text.{Put, hex2, field, line, signed_line, newline}
 use Rattle.text.proofs.Putting.{put_whole}
 use Rattle.text.proofs.Long.{hex2-few, field-few, line-few, signed-line-few}
 use Rattle.report.specs.declared.Tally.{Tally}

@@ -4,15 +4,15 @@ use mathlib.Core.Path.{◌≡◌, refl, sym, ap, ◌∙◌}
 use mathlib.Core.Bool.{true, false}
 use mathlib.Core.List.{List, [], ◌∷◌, ◌++◌}
 use mathlib.Core.Option.{Option, none, some}
-use Prim.Native.Nat.{ℕ, zero, suc, ◌+◌, ◌*◌, ◌≤◌, ◌<◌}
+use Prim.Native.Nat.{ℕ, suc, ◌+◌, ◌*◌, ◌≤◌, ◌<◌}
 use native.Mathlib.Omega.{arith}
 use lib.ListN.{length, take, get_or, replicate, length-append}
 use Rattle.wire.specs.Bytes.{byte_at}
 use Rattle.frame.specs.Frame.{sum, total}
 use Rattle.rules.specs.Rules.{Config, Fate, noise, discarded as thrown, sum_right, restarts, judge, look, stay, after, drops}
 use Rattle.rules.specs.Ledger.{Line, lost_for, discards_for, clears, spent, turns, run, total as counted}
-use Rattle.rules.specs.Reader.{Discards, each, Reader, Answer, wrap, fresh, complete, held_of, untaken, did, booked, push, status, bad, answer, joined}
-use Rattle.rules.specs.Demand.{Lawful, ledger_of, left_of, Within, answers, Account, Valid, Collected, Demand, CutsDontMatter}
+use Rattle.rules.specs.Reader.{each, Reader, Answer, wrap, fresh, complete, held_of, untaken, did, booked, push, status, bad, answer, joined}
+use Rattle.rules.specs.Demand.{Lawful, left_of, Within, answers, Account, Valid, Collected, Demand, CutsDontMatter}
 use Rattle.rules.proofs.Examples.{five, answered, c90, strict95, frame90, f1, f2, f3, echo1}
 
 -- the reader that is left after some chunks

@@ -1,14 +1,11 @@
-use Prim.Native.Nat.{◌≤◌, ◌+◌, ◌-◌}
+use Prim.Native.Nat.{◌+◌, ◌-◌}
 use native.Mathlib.Omega.{arith}
-use borrow.Author.Rules.{rules}
-use lib.ListN.{length}
 use mathlib.Core.Path.{◌≡◌}
 use mathlib.Core.Path.{refl}
 use mathlib.Core.Logic.{inl, inr}
 use lib.ListN.{drop, length-take}
-use Rattle.reader.specs.View.{counted}
 use Rattle.reader.proofs.Promise.{answered-took}
-use Rattle.chunks.proofs.Cutting.{SoFar, so_next, so_all, turns_left, fewer}
+use Rattle.chunks.proofs.Cutting.{so_next, so_all, fewer}
 use Rattle.chunks.proofs.daly_push_in_chunks.Goals as goal
 
 pub loop-more-init : goal.loop-more-init

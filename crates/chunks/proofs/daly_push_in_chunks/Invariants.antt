@@ -1,14 +1,7 @@
-use Prim.Native.Nat.{◌≤◌, ◌+◌, ◌-◌}
-use native.Mathlib.Omega.{arith}
-use borrow.Author.Rules.{rules}
+use Prim.Native.Nat.{◌≤◌, ◌-◌}
 use lib.ListN.{length}
-use mathlib.Core.Path.{◌≡◌}
-use mathlib.Core.Path.{refl}
-use mathlib.Core.Logic.{inl, inr}
-use lib.ListN.{drop, length-take}
 use Rattle.reader.specs.View.{counted}
-use Rattle.reader.proofs.Promise.{answered-took}
-use Rattle.chunks.proofs.Cutting.{SoFar, so_next, so_all, turns_left, fewer}
+use Rattle.chunks.proofs.Cutting.{SoFar, turns_left}
 use Rattle.chunks.proofs.daly_push_in_chunks.Given as goal
 
 abbrev pub invariant-loop-more : goal.invariant-loop-more

@@ -3,7 +3,6 @@ use mathlib.Core.Path.{ap, sym}
 use borrow.Author.Tests.{ne_eqb}
 use Rattle.report.specs.Report.{answer_text}
 use Rattle.report.proofs.Laws.{put_as}
-use borrow.Author.Rules.{rules}
 use Rattle.report.proofs.put_answer.Goals as goal
 
 pub returns-in-144 : goal.returns-in-144

@@ -1,7 +1,6 @@
 use Rattle.report.proofs.Laws.{put_as}
 use mathlib.Core.Path.{ap, sym}
 use Rattle.report.specs.Lines.{flag_line}
-use borrow.Author.Rules.{rules}
 use Rattle.report.proofs.put_flag_line.Goals as goal
 
 pub returns-then-flag : goal.returns-then-flag

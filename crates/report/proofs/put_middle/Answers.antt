@@ -1,5 +1,4 @@
-use Rattle.text.proofs.Putting.{put_then, put-long}
-use borrow.Author.Rules.{rules}
+use Rattle.text.proofs.Putting.{put_then}
 use Rattle.report.proofs.put_middle.Goals as goal
 
 pub returns : goal.returns

@@ -1,4 +1,3 @@
-use borrow.Author.Rules.{rules}
 use Rattle.request.proofs.switch_request.Goals as goal
 
 pub returns-then-enable : goal.returns-then-enable

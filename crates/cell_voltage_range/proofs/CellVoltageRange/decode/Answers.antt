@@ -1,5 +1,4 @@
-use mathlib.Core.Path.{ap, sym, ◌∙◌}
-use borrow.Author.Rules.{rules}
+use mathlib.Core.Path.{ap, sym}
 use Rattle.cell_voltage_range.specs.declared.CellVoltageRangeAnswer.TheVariants.{CellVoltageRangeGiven}
 use Rattle.cell_voltage_range.proofs.CellVoltageRange.decode.Goals as goal
 

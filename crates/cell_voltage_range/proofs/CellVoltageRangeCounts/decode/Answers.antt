@@ -1,5 +1,4 @@
-use mathlib.Core.Path.{ap, sym, ◌∙◌}
-use borrow.Author.Rules.{rules}
+use mathlib.Core.Path.{ap, sym}
 use Rattle.frame.proofs.Laws.{sound_long}
 use Rattle.cell_voltage_range.specs.declared.CellVoltageRangeCountsAnswer.TheVariants.{CellVoltageRangeCountsGiven}
 use Rattle.cell_voltage_range.proofs.CellVoltageRangeCounts.decode.Goals as goal

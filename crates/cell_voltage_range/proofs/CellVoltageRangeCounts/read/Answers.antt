@@ -1,4 +1,3 @@
-use borrow.Author.Rules.{rules}
 use Rattle.cell_voltage_range.proofs.CellVoltageRangeCounts.read.Goals as goal
 
 pub returns : goal.returns

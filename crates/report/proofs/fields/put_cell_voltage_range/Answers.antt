@@ -1,7 +1,6 @@
 use Rattle.report.proofs.Laws.{put_as}
 use mathlib.Core.Path.{ap, sym, ◌∙◌}
 use Rattle.report.specs.Fields.{cell_voltage_range_text}
-use borrow.Author.Rules.{rules}
 use Rattle.report.proofs.fields.put_cell_voltage_range.Goals as goal
 
 pub returns-in-CellVoltageRangeCountsRefused : goal.returns-in-CellVoltageRangeCountsRefused

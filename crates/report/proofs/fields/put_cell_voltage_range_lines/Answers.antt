@@ -1,5 +1,4 @@
 use Rattle.text.proofs.Putting.{put_then}
-use borrow.Author.Rules.{rules}
 use Rattle.report.proofs.fields.put_cell_voltage_range_lines.Goals as goal
 
 pub returns : goal.returns

@@ -1,7 +1,6 @@
 use Rattle.report.proofs.Laws.{put_as}
 use mathlib.Core.Path.{ap, sym, ◌∙◌}
 use Rattle.report.specs.Fields.{mosfet_status_text}
-use borrow.Author.Rules.{rules}
 use Rattle.report.proofs.fields.put_mosfet_status.Goals as goal
 
 pub returns-in-MosfetStatusCountsRefused : goal.returns-in-MosfetStatusCountsRefused

@@ -1,7 +1,6 @@
 use Rattle.report.proofs.Laws.{put_as}
 use mathlib.Core.Path.{ap, sym, ◌∙◌}
 use Rattle.report.specs.Fields.{temperature_range_text}
-use borrow.Author.Rules.{rules}
 use Rattle.report.proofs.fields.put_temperature_range.Goals as goal
 
 pub returns-in-TemperatureRangeRefused : goal.returns-in-TemperatureRangeRefused

@@ -1,5 +1,4 @@
-use mathlib.Core.Path.{ap, sym, ◌∙◌}
-use borrow.Author.Rules.{rules}
+use mathlib.Core.Path.{ap, sym}
 use Rattle.soc.specs.declared.SocAnswer.TheVariants.{SocGiven}
 use Rattle.soc.proofs.Soc.decode.Goals as goal
 

@@ -1,5 +1,4 @@
-use mathlib.Core.Path.{ap, sym, ◌∙◌}
-use borrow.Author.Rules.{rules}
+use mathlib.Core.Path.{ap, sym}
 use Rattle.frame.proofs.Laws.{sound_long}
 use Rattle.soc.specs.declared.SocCountsAnswer.TheVariants.{SocCountsGiven}
 use Rattle.soc.proofs.SocCounts.decode.Goals as goal

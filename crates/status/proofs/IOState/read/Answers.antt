@@ -1,4 +1,3 @@
-use borrow.Author.Rules.{rules}
 use Rattle.status.proofs.IOState.read.Goals as goal
 
 pub returns : goal.returns

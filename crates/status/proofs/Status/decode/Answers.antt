@@ -1,5 +1,4 @@
-use mathlib.Core.Path.{ap, sym, ◌∙◌}
-use borrow.Author.Rules.{rules}
+use mathlib.Core.Path.{ap, sym}
 use Rattle.frame.proofs.Laws.{sound_long}
 use Rattle.status.specs.declared.StatusAnswer.TheVariants.{StatusGiven}
 use Rattle.status.proofs.Status.decode.Goals as goal

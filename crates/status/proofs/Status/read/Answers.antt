@@ -1,4 +1,3 @@
-use borrow.Author.Rules.{rules}
 use Rattle.status.proofs.Status.read.Goals as goal
 
 pub returns : goal.returns

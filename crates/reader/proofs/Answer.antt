@@ -1,8 +1,9 @@
 -- The answer of a push, from what its way over the chunk came to. Assumes nothing.
+use Rattle.std.specs.Prelude.{if◌then◌else◌}
 use Rattle.std.proofs.Common.{◌≡◌, ℕ, ◌+◌, ◌*◌, ◌%◌, ◌<◌, ◌≤◌, Bool, true, false, ◌||◌, ltb, List, ◌++◌, length, get_or, drop, set, sym, refl, ap, ◌∙◌, true≢false, arith, length-append, length-set, get_or-set_other, get_or-set_same}
 use mathlib.Core.Option.{none}
 use lib.ListN.{get_or-append}
-use Rattle.rules.specs.Rules.{Config, Why, look, if◌then◌else◌}
+use Rattle.rules.specs.Rules.{Config, Why, look}
 use Rattle.rules.specs.Ledger.{Outcome, run, total, discards, discards_for, clears}
 use Rattle.rules.specs.Reader.{each, all_of, wrap, complete, took, did, booked, push, status}
 use Rattle.rules.proofs.Run.{run-stop}

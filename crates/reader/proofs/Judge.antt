@@ -1,9 +1,10 @@
 -- The verdict on 13 bytes, from what the code tests. Assumes nothing.
+use Rattle.std.specs.Prelude.{if◌then◌else◌}
 use Rattle.std.proofs.Common.{◌≡◌, ℕ, suc, ◌+◌, ◌-◌, ◌<◌, ◌≤◌, Bool, true, false, ◌&&◌, eqb, List, [], length, take, sym, refl, ◌∙◌, add-one, arith, le-ltb, lt-ltb, eq-eqb, ne_eqb}
 use Rattle.wire.specs.Bytes.{byte_at}
 use Rattle.frame.specs.Frame.{sum}
 use Rattle.frame.specs.Checks.{sum_of}
-use Rattle.rules.specs.Rules.{Config, Why, span, Fate, discarded, collected, sum_right, judge, restarts, stay, drops, if◌then◌else◌}
+use Rattle.rules.specs.Rules.{Config, Why, span, Fate, discarded, collected, sum_right, judge, restarts, stay, drops}
 use Rattle.reader.specs.View.{config, chop, seat, seat_of}
 use Rattle.reader.proofs.Parts.{length-chop}
 

@@ -1,7 +1,8 @@
 -- What the contract of a push gives its callers: pushes in a row, and demand 3 of the code. Assumes nothing.
+use Rattle.std.specs.Prelude.{if◌then◌else◌}
 use Rattle.std.proofs.Common.{◌≡◌, ℕ, zero, suc, ◌+◌, ◌*◌, ◌<◌, ◌≤◌, Bool, true, false, cond, eqb, List, [], ◌∷◌, ◌++◌, length, get_or, take, drop, sym, refl, ap, ◌∙◌, true≢false, arith, ext_get_or, take-add}
 use Rattle.wire.proofs.Decides.{both}
-use Rattle.rules.specs.Rules.{Config, if◌then◌else◌}
+use Rattle.rules.specs.Rules.{Config}
 use Rattle.rules.specs.Reader.{Reader, Answer, fresh, did, booked, push, status, took, bad, answer}
 use Rattle.rules.specs.Demand.{answers}
 use Rattle.rules.proofs.Recut.{recut, parts}

@@ -1,11 +1,12 @@
 -- What a scan over a slice comes to, and the laws by which a turn of its loop is one line.
 -- Assumes nothing.
+use Rattle.std.specs.Prelude.{if◌then◌else◌}
 use Rattle.std.proofs.Common.{◌≡◌, ℕ, zero, suc, ◌+◌, ◌-◌, ◌*◌, ◌<◌, ◌≤◌, Bool, true, false, eqb, ltb, List, [], ◌∷◌, ◌++◌, length, get_or, take, drop, set, sym, refl, ap, ◌∙◌, arith, length-drop, length-set, drop_of_length-le, get_or-drop, get_or-set_other, get_or-set_same, drop-drop, ltb-false, ltb-true, le-ltb, eq-eqb, eqb-true, le-leb}
 use mathlib.Core.Option.{none, some}
 use lib.Seq.{paste, set_out}
 use borrow.Author.Tests.{lt-leb, eqb-false}
 use Rattle.wire.specs.Bytes.{byte_at}
-use Rattle.rules.specs.Rules.{Config, Why, noise, wrong_sum, wrong_command, wrong_number, echo, span, Fate, discarded, collected, size, lost, sum_right, judge, look, restarts, stay, after, drops, if◌then◌else◌}
+use Rattle.rules.specs.Rules.{Config, Why, noise, wrong_sum, wrong_command, wrong_number, echo, span, Fate, discarded, collected, size, lost, sum_right, judge, look, restarts, stay, after, drops}
 use Rattle.rules.specs.Ledger.{line, next, Outcome, halt, enter, run, total, discards, place, lost_for, discards_for, clears}
 use Rattle.rules.specs.Reader.{wrap, complete}
 use Rattle.rules.proofs.Run.{run-stop, run_more}

@@ -1,8 +1,8 @@
 // The rules on the bytes of a slice, one turn after the other.
-ghost use Rattle.std.specs.Prelude.{◌≡◌, ◌+◌, ◌%◌, ◌<◌, ◌≤◌, true, false, ◌&&◌, length, drop, ◌==◌};
+ghost use Rattle.std.specs.Prelude.{◌≡◌, ◌+◌, ◌%◌, ◌<◌, ◌≤◌, true, false, ◌&&◌, length, drop, ◌==◌, if◌then◌else◌};
 ghost use Rattle.wire.specs.Bytes.{byte_at};
 ghost use Rattle.std.proofs.Math.Seq.{paste};
-ghost use Rattle.rules.specs.Rules.{sum_right, judge, restarts, if◌then◌else◌};
+ghost use Rattle.rules.specs.Rules.{sum_right, judge, restarts};
 ghost use Rattle.rules.specs.Ledger.{run};
 ghost use Rattle.reader.specs.View.{config, chop, seat_of};
 ghost use Rattle.reader.specs.Steps.{Ran, Quiet};

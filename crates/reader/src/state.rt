@@ -1,9 +1,8 @@
 // Refusal 8, the mark and the status: what a push tests before it moves and books afterwards.
-ghost use Rattle.std.specs.Prelude.{◌≡◌, ℕ, ◌+◌, ◌<◌, ◌≤◌, false, not, ◌&&◌, ◌||◌, length, nat_lt, slice_index};
+ghost use Rattle.std.specs.Prelude.{◌≡◌, ℕ, ◌+◌, ◌<◌, ◌≤◌, false, not, ◌&&◌, ◌||◌, length, nat_lt, slice_index, if◌then◌else◌};
 ghost use Rattle.frame.specs.declared.Refusal.TheVariants.{BadState};
 ghost use Rattle.frame.specs.declared.Check.TheVariants.{Sound};
 ghost use Rattle.frame.specs.Refusals.{check_number, refuse};
-ghost use Rattle.rules.specs.Rules.{if◌then◌else◌};
 ghost use Rattle.rules.specs.Reader.{state_number, all_of};
 ghost use Rattle.reader.specs.View.{view, counted, five_in};
 

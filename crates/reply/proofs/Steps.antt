@@ -1,4 +1,5 @@
 -- What each function of the crate does to the input's state. Assumes nothing.
+use Rattle.std.specs.Prelude.{if◌then◌else◌}
 use mathlib.Core.Path.{◌≡◌, refl, sym, ap, ◌∙◌}
 use mathlib.Core.Bool.{Bool, true, false, cond}
 use mathlib.Core.List.{List, [], ◌∷◌}
@@ -12,7 +13,6 @@ use Rattle.frame.specs.declared.Refusal.{Refusal}
 use Rattle.frame.specs.declared.Refusal.TheVariants.{RequestTooShort, UnknownCommand}
 use Rattle.frame.specs.Refusals.{refusal_number}
 use Rattle.list.specs.Numbered.{reply_size}
-use Rattle.rules.specs.Rules.{if◌then◌else◌}
 use Rattle.rules.specs.Reader.{Discards, Reader, Answer, all_of, joined, status, answer}
 use Rattle.reader.specs.View.{five_in, view, chop, Answered}
 use Rattle.reader.specs.declared.Counts.{Counts}

@@ -1,4 +1,5 @@
 -- Valid frames, numbered in order and one behind the other, are collected just so, with anything behind them. Assumes nothing.
+use Rattle.std.specs.Prelude.{if◌then◌else◌}
 use mathlib.Core.Path.{◌≡◌, refl, sym, ap, ◌∙◌}
 use mathlib.Core.Bool.{Bool, true, false, not, ◌&&◌, ◌||◌, true≢false}
 use mathlib.Core.List.{List, [], ◌∷◌, ◌++◌, append_assoc, append-nil}
@@ -12,7 +13,7 @@ use lib.Seq.{take_at, drop_at}
 use lib.Dec.{leb, ltb, eqb}
 use borrow.Author.Tests.{ltb-true, le-ltb, lt-ltb, lt-leb, le-leb, eqb-true, eq-eqb}
 use Rattle.wire.specs.Bytes.{byte_at}
-use Rattle.rules.specs.Rules.{Config, Why, noise, wrong_sum, wrong_command, wrong_number, echo, collected, sum_right, restarts, judge, look, stay, after, drops, if◌then◌else◌}
+use Rattle.rules.specs.Rules.{Config, Why, noise, wrong_sum, wrong_command, wrong_number, echo, collected, sum_right, restarts, judge, look, stay, after, drops}
 use Rattle.rules.specs.Ledger.{next, Outcome, run, total, discards, discards_for, clears}
 use Rattle.rules.specs.Reader.{each, count_of, Reader, wrap, all_of, complete, fresh, held_of, untaken, did, booked, push, status, bad, completeness, joined}
 use Rattle.rules.specs.Demand.{Valid, Numbered, answers}

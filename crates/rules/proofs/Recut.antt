@@ -1,5 +1,6 @@
 -- However the stream is cut, the reader ends the same.
 -- Assumes nothing.
+use Rattle.std.specs.Prelude.{if◌then◌else◌}
 use mathlib.Core.Path.{◌≡◌, refl, sym, ap, ◌∙◌}
 use mathlib.Core.Bool.{Bool, true, false, not, ◌||◌, true≢false}
 use mathlib.Core.List.{List, [], ◌∷◌, ◌++◌, append_assoc, append-nil}
@@ -11,7 +12,7 @@ use lib.Seq.{take-append-le, drop-append-le}
 use lib.Dec.{leb, ltb, eqb}
 use borrow.Author.Tests.{ltb-true, ltb-false, lt-ltb, eqb-true, eq-eqb}
 use Rattle.wire.specs.Bytes.{byte_at}
-use Rattle.rules.specs.Rules.{Config, noise, span, Fate, discarded, collected, size, lost, judge, look, after, if◌then◌else◌}
+use Rattle.rules.specs.Rules.{Config, noise, span, Fate, discarded, collected, size, lost, judge, look, after}
 use Rattle.rules.specs.Ledger.{Line, line, next, Outcome, enter, run, total, discards, lost_for, discards_for, clears, spent}
 use Rattle.rules.specs.Reader.{Reader, each, count_of, all_of, wrap, complete, held_of, untaken, took, did, booked, push, joined}
 use Rattle.rules.proofs.Run.{enough, steady, run-stop, run_more, run_ind}

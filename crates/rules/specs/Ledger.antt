@@ -1,7 +1,7 @@
 -- Document 01, "The reader's rules": all turns, written down line by line. Definitions only.
-use Rattle.std.specs.Prelude.{ℕ, zero, suc, ◌+◌, List, [], ◌∷◌, ◌++◌, eqb, length, take, drop}
+use Rattle.std.specs.Prelude.{ℕ, zero, suc, ◌+◌, List, [], ◌∷◌, ◌++◌, eqb, length, take, drop, if◌then◌else◌}
 use Rattle.std.proofs.Math.Option.{Option, none, some}
-use Rattle.rules.specs.Rules.{Config, Why, noise, wrong_sum, wrong_command, wrong_number, echo, span, Fate, discarded, collected, size, lost, look, after, drops, if◌then◌else◌}
+use Rattle.rules.specs.Rules.{Config, Why, noise, wrong_sum, wrong_command, wrong_number, echo, span, Fate, discarded, collected, size, lost, look, after, drops}
 
 -- one line of the ledger: the bytes that a turn cut off, what became of them, and how many frames were dropped at that
 pub record Line : Type 0 where

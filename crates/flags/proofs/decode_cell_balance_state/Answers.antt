@@ -2,7 +2,6 @@ use mathlib.Core.Path.{refl}
 use native.Mathlib.Omega.{arith}
 use Rattle.list.proofs.Decoding.{opened, stored, refused}
 use Rattle.wire.proofs.Firsts.{length-firsts}
-use borrow.Author.Rules.{rules}
 use Rattle.flags.proofs.decode_cell_balance_state.Goals as goal
 
 pub store_flags-requires : goal.store_flags-requires

@@ -1,7 +1,6 @@
 use mathlib.Core.Path.{refl, sym}
 use Rattle.list.proofs.Decoding.{opened, stored, refused}
 use Rattle.flags.proofs.Noting.{noted_all}
-use borrow.Author.Rules.{rules}
 use Rattle.flags.proofs.decode_error_codes.Goals as goal
 
 pub note_faults-count-requires : goal.note_faults-count-requires

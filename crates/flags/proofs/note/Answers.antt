@@ -1,9 +1,7 @@
 use mathlib.Core.Path.{◌≡◌}
-use Prim.Native.Nat.{ℕ, ◌+◌, ◌-◌, ◌≤◌}
+use Prim.Native.Nat.{ℕ, ◌+◌}
 use native.Mathlib.Omega.{arith}
-use lib.ListN.{length}
-use Rattle.flags.specs.Faults.{Test, test, run, faults_by}
-use Rattle.flags.specs.Noted.{Noted}
+use Rattle.flags.specs.Faults.{Test, test}
 use Rattle.flags.proofs.Noting.{noted_none, noted_hit, noted_miss, noted_long}
 use borrow.Author.Rules.{rules}
 use Rattle.flags.proofs.note.Goals as goal
@@ -19,8 +17,8 @@ loop-i-preserved c =
     let inv = c.loop-i.invariant.2 in
     let r = c.read_bit.ensures in
     elim c.if-read_bit.branch [
-      then-read_bit w ↦ let h = noted_hit a.reply.now f inv r w.if-read_bit.true w.out-is w.next-is in (search rules, noted_long h, h)
-    | else-read_bit w ↦ let h = noted_miss a.reply.now f inv r w.if-read_bit.false w.out-is w.next-is in (search rules, noted_long h, h)
+      | then-read_bit w ↦ let h = noted_hit a.reply.now f inv r w.if-read_bit.true w.out-is w.next-is in (search rules, noted_long h, h)
+      | else-read_bit w ↦ let h = noted_miss a.reply.now f inv r w.if-read_bit.false w.out-is w.next-is in (search rules, noted_long h, h)
     ]
 
 pub returns : goal.returns

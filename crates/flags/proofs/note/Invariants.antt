@@ -1,12 +1,8 @@
 use mathlib.Core.Path.{◌≡◌}
-use mathlib.Core.Logic.{⊎_elim}
-use Prim.Native.Nat.{ℕ, ◌+◌, ◌-◌, ◌≤◌}
-use native.Mathlib.Omega.{arith}
+use Prim.Native.Nat.{◌-◌, ◌≤◌}
 use lib.ListN.{length}
-use Rattle.flags.specs.Faults.{Test, test, run, faults_by}
+use Rattle.flags.specs.Faults.{run, faults_by}
 use Rattle.flags.specs.Noted.{Noted}
-use Rattle.flags.proofs.Noting.{noted_none, noted_hit, noted_miss, noted_long}
-use borrow.Author.Rules.{rules}
 use Rattle.flags.proofs.note.Given as goal
 
 abbrev pub invariant-loop-i : goal.invariant-loop-i

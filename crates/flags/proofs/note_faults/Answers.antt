@@ -1,7 +1,6 @@
 use Rattle.flags.specs.Faults.{faults}
 use Rattle.flags.specs.Noted.{low_tests, high_tests}
 use Rattle.flags.proofs.Noting.{noted_tests}
-use borrow.Author.Rules.{rules}
 use Rattle.flags.proofs.note_faults.Goals as goal
 
 pub returns : goal.returns

@@ -1,7 +1,6 @@
 use mathlib.Core.List.{◌++◌}
 use Rattle.flags.specs.Faults.{run}
 use Rattle.flags.proofs.Noting.{noted_tests}
-use borrow.Author.Rules.{rules}
 use Rattle.flags.proofs.note_low.Goals as goal
 
 pub returns : goal.returns

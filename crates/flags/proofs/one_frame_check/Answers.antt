@@ -1,6 +1,5 @@
 use borrow.Author.Tests.{lt-ltb, le-ltb}
 use Rattle.list.specs.Listed.{gate}
-use borrow.Author.Rules.{rules}
 use Rattle.flags.proofs.one_frame_check.Goals as goal
 
 pub returns-then-reply-lt-FRAME_LENGTH : goal.returns-then-reply-lt-FRAME_LENGTH

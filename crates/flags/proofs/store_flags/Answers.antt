@@ -1,7 +1,5 @@
 use mathlib.Core.Path.{refl}
-use Prim.Native.Nat.{◌-◌}
-use Rattle.flags.specs.Balance.{flag_at}
-use Rattle.list.proofs.Filling.{Filled, filled_none, filled_more, filled_all}
+use Rattle.list.proofs.Filling.{filled_none, filled_more, filled_all}
 use borrow.Author.Rules.{rules}
 use Rattle.flags.proofs.store_flags.Goals as goal
 

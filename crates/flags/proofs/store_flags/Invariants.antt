@@ -1,8 +1,6 @@
-use mathlib.Core.Path.{refl}
 use Prim.Native.Nat.{◌-◌}
 use Rattle.flags.specs.Balance.{flag_at}
-use Rattle.list.proofs.Filling.{Filled, filled_none, filled_more, filled_all}
-use borrow.Author.Rules.{rules}
+use Rattle.list.proofs.Filling.{Filled}
 use Rattle.flags.proofs.store_flags.Given as goal
 
 abbrev pub invariant-loop-i : goal.invariant-loop-i

@@ -1,4 +1,3 @@
-use borrow.Author.Tests.{ne_eqb}
 use Rattle.mosfet_status.proofs.mode_of.Goals as goal
 
 pub returns-in-0 : goal.returns-in-0
@@ -6,4 +5,3 @@ returns-in-0 c = simp c.in-0.is
 
 pub returns-in-1 : goal.returns-in-1
 returns-in-1 c = simp c.in-1.is
-

@@ -1,7 +1,6 @@
-use mathlib.Core.Path.{sym, ◌∙◌}
+use mathlib.Core.Path.{sym}
 use native.Mathlib.Omega.{arith}
 use borrow.Author.Tests.{lt-ltb, le-ltb}
-use borrow.Author.Rules.{rules}
 use Rattle.frame.proofs.Laws.{sound_long, then_stops}
 use Rattle.mosfet_status.specs.MosfetStatus.{mosfet_check}
 use Rattle.mosfet_status.proofs.mosfet_check.Goals as goal

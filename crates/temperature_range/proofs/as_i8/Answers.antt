@@ -1,4 +1,4 @@
-use Rattle.std.proofs.Common.{◌≡◌, ℕ, ◌<◌, ◌≤◌, ℤ, pos, ◌-ℤ◌, sym, ◌∙◌, subst, arith, to_z-of_z, w8, SFits, rules, le-ltb, lt-ltb}
+use Rattle.std.proofs.Common.{◌≡◌, ℕ, ◌<◌, ◌≤◌, ℤ, pos, ◌-ℤ◌, sym, ◌∙◌, subst, arith, to_z-of_z, w8, SFits, le-ltb, lt-ltb}
 use Rattle.wire.proofs.Offset.{coded_fits, read_back}
 use Rattle.temperature_range.specs.TemperatureRange.{as_i8}
 use Rattle.temperature_range.proofs.as_i8.Goals as goal

@@ -1,5 +1,4 @@
 use Rattle.text.proofs.Below.{wide_fits, less_fits, less-whole, less-is, more-whole}
-use borrow.Author.Rules.{rules}
 use Rattle.text.proofs.magnitude.Goals as goal
 
 pub overflow_cast-result : goal.overflow_cast-result

@@ -1,5 +1,4 @@
 use Rattle.text.proofs.Putting.{put_one, put_past, put_stopped}
-use borrow.Author.Rules.{rules}
 use Rattle.text.proofs.put_byte.Goals as goal
 
 pub returns-then-at-out : goal.returns-then-at-out

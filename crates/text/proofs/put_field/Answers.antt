@@ -1,6 +1,5 @@
 use Rattle.text.proofs.Putting.{put_then}
 use Rattle.text.specs.Text.{field}
-use borrow.Author.Rules.{rules}
 use Rattle.text.proofs.put_field.Goals as goal
 
 pub returns : goal.returns

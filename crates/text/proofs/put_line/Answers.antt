@@ -1,6 +1,5 @@
 use Rattle.text.specs.Text.{line}
 use Rattle.text.proofs.Putting.{put_then}
-use borrow.Author.Rules.{rules}
 use Rattle.text.proofs.put_line.Goals as goal
 
 pub returns : goal.returns

@@ -1,5 +1,4 @@
 use Rattle.text.proofs.Putting.{put_then}
-use borrow.Author.Rules.{rules}
 use Rattle.text.proofs.put_name.Goals as goal
 
 pub returns : goal.returns

@@ -1,6 +1,5 @@
 use Rattle.text.proofs.Putting.{put_then}
 use Rattle.text.proofs.Below.{text_below, text_above}
-use borrow.Author.Rules.{rules}
 use Rattle.text.proofs.put_signed.Goals as goal
 
 pub returns-then-z-lt0 : goal.returns-then-z-lt0

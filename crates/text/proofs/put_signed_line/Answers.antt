@@ -1,7 +1,6 @@
 use Rattle.text.proofs.Putting.{put_then}
 use Rattle.text.specs.Text.{signed_line}
 use Rattle.text.proofs.Below.{is_back}
-use borrow.Author.Rules.{rules}
 use Rattle.text.proofs.put_signed_line.Goals as goal
 
 pub returns : goal.returns

@@ -1,10 +1,6 @@
 use lib.ListN.{take}
-use lib.Seq.{take-length}
 use Rattle.text.specs.Text.{Put}
-use Rattle.text.proofs.Putting.{put-none, put-more, put-long}
 use Prim.Native.Nat.{◌≤◌, ◌-◌}
-use native.Mathlib.Omega.{arith}
-use borrow.Author.Rules.{rules}
 use lib.ListN.{length}
 use mathlib.Core.Path.{◌≡◌}
 use Rattle.text.proofs.put_word.Given as goal

@@ -1,4 +1,3 @@
-use borrow.Author.Rules.{rules}
 use Rattle.writing.proofs.mosfet_status_reply.Goals as goal
 
 pub returns : goal.returns

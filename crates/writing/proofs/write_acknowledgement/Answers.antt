@@ -1,4 +1,3 @@
-use borrow.Author.Rules.{rules}
 use Rattle.writing.proofs.write_acknowledgement.Goals as goal
 
 pub returns : goal.returns

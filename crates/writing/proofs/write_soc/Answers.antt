@@ -1,4 +1,3 @@
-use borrow.Author.Rules.{rules}
 use Rattle.writing.proofs.write_soc.Goals as goal
 
 pub returns : goal.returns

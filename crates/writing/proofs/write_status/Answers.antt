@@ -1,4 +1,3 @@
-use borrow.Author.Rules.{rules}
 use Rattle.writing.proofs.write_status.Goals as goal
 
 pub returns : goal.returns

@@ -2,7 +2,6 @@ use mathlib.Core.Path.{ap, sym, ◌∙◌}
 use Rattle.mosfet_status.specs.declared.MosfetStatusAnswer.TheVariants.{MosfetStatusGiven}
 use Rattle.mosfet_status.specs.MosfetStatus.{mosfet_status_of}
 use Rattle.mosfet_status.proofs.Laws.{mosfet-long}
-use borrow.Author.Rules.{rules}
 use Rattle.mosfet_status.proofs.MosfetStatus.decode.Goals as goal
 
 pub read-requires : goal.read-requires

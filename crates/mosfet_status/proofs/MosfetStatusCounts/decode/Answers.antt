@@ -1,5 +1,4 @@
-use mathlib.Core.Path.{ap, sym, ◌∙◌}
-use borrow.Author.Rules.{rules}
+use mathlib.Core.Path.{ap, sym}
 use Rattle.mosfet_status.specs.declared.MosfetStatusCountsAnswer.TheVariants.{MosfetStatusCountsGiven}
 use Rattle.mosfet_status.proofs.Laws.{mosfet-long}
 use Rattle.mosfet_status.proofs.MosfetStatusCounts.decode.Goals as goal

@@ -1,4 +1,3 @@
-use borrow.Author.Rules.{rules}
 use Rattle.mosfet_status.proofs.MosfetStatusCounts.read.Goals as goal
 
 pub returns : goal.returns

@@ -1,4 +1,4 @@
-use Rattle.std.proofs.Common.{sym, ap, ◌∙◌, rules}
+use Rattle.std.proofs.Common.{sym, ap}
 use Rattle.frame.proofs.Laws.{sound_long}
 use Rattle.temperature_range.specs.declared.TemperatureRangeAnswer.TheVariants.{TemperatureRangeGiven}
 use Rattle.temperature_range.proofs.TemperatureRange.decode.Goals as goal

@@ -5,7 +5,6 @@ ghost use Rattle.reply.specs.Input.{OfSomeInput};
 
 use reply::Input;
 use std::env::{Env, FillError};
-use std::fs::OpenOptions;
 use std::io::{IsTerminal, Read, Stdin, Write};
 
 mod usage;
@@ -42,10 +41,7 @@ fn main(rt: HostRuntime) {
     let input = read_all(rt.stdin(), &mut frames, &mut buffer);
     let mut out = [0u8; 8192];
     let n = reply::print(&frames, input, &mut out);
-    // A pipe that nobody reads any more ends its writer by a signal, but not while the writer holds the reading end itself.
-    let _reading_end = OpenOptions::new()
-        .read(true)
-        .write(true)
-        .open(&rt, "/dev/stdout");
+    // A write that fails ends the program quietly. So does one to a pipe that nobody reads any more: from its start on a program
+    // ignores the signal by which the system would end it there.
     let _ = rt.stdout().write_all(&out[..n]);
 }

@@ -107,13 +107,13 @@ FACTS = re.compile("|".join([
 ]))
 # In the same wordings the prover says that an edit left names or forms which do not fit: nothing was to be proved.
 UNFIT = [
-    (r"has no `Need-", "the proof names a need that the edited code does not have"),
+    (r"\.Goals` has no `", "the proof names a goal that the edited code does not have"),
     (r"that can be named from here|^`[^`]*` is not in scope", "a name is unknown"),
     (r"has no field `", "the proof names a step that the edited code does not take"),
     (r"^expected a type, but|^this is applied to an argument but has type `Type|^this pattern needs a function",
      "the proof is for code with other loops or steps"),
-    (r"^expected type `[^`]*Need-[^`]*`, but this has type `[^`]*Need-|first differ where one has `(\(c : )?\S*[lL]ts\.(After|Then|Else|Start)",
-     "the edited code asks for other needs than the proof lists"),
+    (r"^expected type `[^`]*[gG]oals?\.[^`]*`, but this has type `[^`]*[gG]oals?\.|first differ where one has `(\(c : )?\S*[lL]ts\.(After|Then|Else|Start)",
+     "the edited code asks for other goals than the proof answers"),
     (r"has no function `", "the function of a proof is gone"),
     (r"`Prim\.Unit \{0\}` \(expected\)", "the contract is gone, so nothing was to be proved"),
 ]

@@ -1,7 +1,7 @@
 /*
  * Reads Daly battery boards: requests, replies, and the frames of a noisy serial line.
  *
- * Link libdaly.a, which `rt staticlib daly` writes to target/staticlib; `tools/install PREFIX` puts it where
+ * Link libdaly.a, which `tools/build daly` writes to target/staticlib; `tools/install PREFIX` puts it where
  * pkg-config finds it. It runs on x86-64 Linux, needs nothing but the C library, allocates nothing, keeps
  * nothing between calls and never stops the program: every call answers, whatever it is given. What each
  * function answers is proved (docs/PROMISES.md).

@@ -1,7 +1,7 @@
 /*
  * Writes replies as a Daly board sends them, for a bench that plays the board.
  *
- * Link libwriters.a, which `rt staticlib writers` writes to target/staticlib; pkg-config finds it as daly-writers. A
+ * Link libwriters.a, which `tools/build writers` writes to target/staticlib; pkg-config finds it as daly-writers. A
  * controller needs it not. What daly.h says for every function holds here too. What is written decodes to what was
  * meant, for every input that is accepted: this is proved (docs/PROMISES.md).
  *

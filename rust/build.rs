@@ -53,7 +53,7 @@ fn link_archive(folder: &Path, name: &str) -> Result<(), String> {
     // Whole: the linker runs in another folder.
     let Some(whole) = archive.canonicalize().ok() else {
         return Err(format!(
-            "{} is missing. `rt staticlib {name}`, at the top of the repository, makes it; \
+            "{} is missing. `tools/build {name}`, at the top of the repository, makes it; \
              an archive in another folder is found by {FOLDER}.",
             archive.display()
         ));

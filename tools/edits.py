@@ -1,4 +1,4 @@
-"""The must-fail edits, and what the prover said of each. An importer sets sys.dont_write_bytecode first.
+"""The must-fail edits, and what the prover said of each (tools/refusals). An importer sets sys.dont_write_bytecode first.
 
 An edit F.WHAT changes the text of the function F, public or not. A file together.WHAT.edit holds edits of
 several functions, one of each: each begins with the line `# F.WHAT: what is wrong`. A file F.WHAT.edit is one
@@ -25,7 +25,7 @@ HEAD = re.compile(r"# (?P<label>\w+(?:\.\w+)+): (?P<says>\S.*)")
 def files_of(root, crate):
     for file in sorted((root / "crates" / crate / "must-fail").glob("*.edit")):
         label = file.name.removesuffix(".edit")
-        yield EditFile(crate, label, file, root / "target/must-fail" / crate / label / ".log")
+        yield EditFile(crate, label, file, root / "target/must-fail" / crate / f"{label}.log")
 
 
 def is_together(file):
@@ -107,13 +107,13 @@ FACTS = re.compile("|".join([
 ]))
 # In the same wordings the prover says that an edit left names or forms which do not fit: nothing was to be proved.
 UNFIT = [
-    (r"has no `Need-", "the proof names a need that the edited code does not have"),
+    (r"\.Goals` has no `", "the proof names a goal that the edited code does not have"),
     (r"that can be named from here|^`[^`]*` is not in scope", "a name is unknown"),
     (r"has no field `", "the proof names a step that the edited code does not take"),
     (r"^expected a type, but|^this is applied to an argument but has type `Type|^this pattern needs a function",
      "the proof is for code with other loops or steps"),
-    (r"^expected type `[^`]*Need-[^`]*`, but this has type `[^`]*Need-|first differ where one has `(\(c : )?\S*[lL]ts\.(After|Then|Else|Start)",
-     "the edited code asks for other needs than the proof lists"),
+    (r"^expected type `[^`]*[gG]oals?\.[^`]*`, but this has type `[^`]*[gG]oals?\.|first differ where one has `(\(c : )?\S*[lL]ts\.(After|Then|Else|Start)",
+     "the edited code asks for other goals than the proof answers"),
     (r"has no function `", "the function of a proof is gone"),
     (r"`Prim\.Unit \{0\}` \(expected\)", "the contract is gone, so nothing was to be proved"),
 ]
@@ -130,23 +130,28 @@ def first_cause(errors):
     return next((e for e in errors if not FOLLOWS.search(e["text"])), None)
 
 
-def place_of(file, error):
-    return error["place"].rpartition(f"/must-fail/{file.crate}/{file.label}/")[2]
+def place_of(error):
+    """Where the error is, from the crate's folder."""
+    return error["place"].removeprefix("./")
+
+
+def is_refused(log):
+    return bool(re.search(r"^logic=not-proved", log, re.M))
 
 
 def unjudged(log, first):
     """Why the prover has not refused the edited code, or nothing."""
     if first and first["code"]:
         return f"the compiler refuses the source: error{first['code']}: {first['text'][:100]}"
-    if not re.search(r"^logic=not-proved", log, re.M):
+    if not is_refused(log):
         return "not refused: its log does not say logic=not-proved"
     return None
 
 
-def malformed(file, error):
+def malformed(error):
     """Why the error leaves nothing to be proved, or nothing."""
     for part, what in (("specs/", "a definition"), ("src/", "a contract")):
-        if place_of(file, error).startswith(part):
+        if place_of(error).startswith(part):
             return f"{what} is not well formed: {error['text'][:100]}"
     return None
 
@@ -165,13 +170,13 @@ def untried(log):
     return None if tried else "no obligation was tried: the edited code needs another proof"
 
 
-def empty_refusal(file, log):
+def empty_refusal(log):
     """Why the log shows no obligation that is not met, or nothing."""
     first = first_cause(errors_of(log))
     fault = unjudged(log, first)
     if fault or not first:
         return fault or untried(log)
-    return malformed(file, first) or unfit(first)
+    return malformed(first) or unfit(first)
 
 
 def is_lost(log, function):
@@ -183,10 +188,9 @@ def unread(file):
     if re.search(r"^file: proofs/", file.file.read_text(), re.M):
         return "it edits a proof, and so shows nothing of the code"
     if not file.log.is_file():
-        said = file.log.parent.with_name(file.label + ".out")
-        bad = re.search(r"BAD EDIT: .*", said.read_text()) if said.is_file() else None
-        return bad.group() if bad else "no log of its refusal: it has not been tried"
-    return None
+        return "no log of its refusal: it has not been tried"
+    bad = re.search(r"^BAD EDIT: .*", file.log.read_text(errors="replace"), re.M)
+    return bad.group() if bad else None
 
 
 # ---- of several edits in one file, each by its function's own error
@@ -199,14 +203,14 @@ def shared_fault(file):
     log = file.log.read_text(errors="replace")
     errors = errors_of(log)
     fault = unjudged(log, first_cause(errors))
-    return fault or next(filter(None, (malformed(file, error) for error in errors)), None)
+    return fault or next(filter(None, (malformed(error) for error in errors)), None)
 
 
-def own_errors(file, log, function):
+def own_errors(log, function):
     """The errors in the function's own proof; that of a function which calls itself has a `+`."""
     *modules, name = map(re.escape, function.path.split("::")[1:])
     folder = re.compile("/".join(["proofs", *modules, rf"\+?{name}/"]))
-    return [error for error in errors_of(log) if folder.match(place_of(file, error))]
+    return [error for error in errors_of(log) if folder.match(place_of(error))]
 
 
 def own_notes(log, function):
@@ -215,11 +219,11 @@ def own_notes(log, function):
     return re.split(r"^(?:fn|struct) ", above, flags=re.M)[-1] if line else None
 
 
-def own_fault(file, log, function):
+def own_fault(log, function):
     """Why the log shows no obligation of this function that is not met, or nothing."""
     if not is_lost(log, function):
         return f"{function.path} is still proved: the edit shows nothing of it"
-    first, notes = first_cause(own_errors(file, log, function)), own_notes(log, function)
+    first, notes = first_cause(own_errors(log, function)), own_notes(log, function)
     if first:
         return unfit(first)
     if notes is None:

@@ -6,26 +6,24 @@ and a record's conditions are left out; rungs, arguments and a record's values a
 import re
 from collections import namedtuple
 
-TOKEN = re.compile(r'"(?:[^"\\]|\\.)*"|0x[0-9A-F_]+|\d[\d_]*(?![\w′])|\.?«\w+»|[.]?[^\W\d][\w′₁₂-]*|[(){};]|--[^\n]*|[^\s\w(){};"«»]+')
+TOKEN = re.compile(r'''"(?:[^"\\]|\\.)*"|0x[0-9A-F_]+|\d[\d_]*(?![\w'])|\.?«\w+»|[.]?[^\W\d][\w'₁₂-]*|[(){};]|--[^\n]*|[^\s\w(){};"«»]+''')
 OTHER = {
-    "&&": "||", "||": "&&", "ltb": "leb", "leb": "ltb", "true": "false", "false": "true", "min": "max", "max": "min",
-    "take": "drop", "drop": "take", "/": "%", "%": "/", "+": "*", "*": "+", "highByte": "lowByte", "lowByte": "highByte",
+    "&&": "||", "||": "&&", "ltb": "leb", "leb": "ltb", "nat_lt": "nat_le", "nat_le": "nat_lt", "true": "false", "false": "true", "min": "max", "max": "min",
+    "take": "drop", "drop": "take", "/": "%", "%": "/", "+": "*", "*": "+", "high_byte": "low_byte", "low_byte": "high_byte",
     "≤": "<", "<": "≤",
 }
 # Where they come from, for a file that names only the one.
 FROM = {
-    "mathlib.Core.Bool": ["_&&_", "_||_", "true", "false"],
-    "lib.Dec": ["ltb", "leb"],
-    "lib.ListN": ["take", "drop"],
-    "Prim.Native.Nat": ["_+_", "_*_", "_/_", "_%_", "min", "max", "_<_", "_≤_"],
-    "Rattle·uncoded·specs.specs.wire_Bytes": ["highByte", "lowByte"],
+    "Rattle.std.specs.Prelude": ["◌&&◌", "◌||◌", "true", "false", "ltb", "leb", "nat_lt", "nat_le", "take", "drop",
+                                 "◌+◌", "◌*◌", "◌/◌", "◌%◌", "min", "max", "◌<◌", "◌≤◌"],
+    "Rattle.uncoded.specs.wire_Bytes": ["high_byte", "low_byte"],
 }
 # What stands between the parts of an expression; an application is what stands between two of these.
-BETWEEN = {"(", ")", "{", "}", ";", "=", "if", "then", "else", "let", "in", "→", "×", "≡", "∷", "++", "&&", "||", "+", "-", "*", "/", "%", "^", "-ℤ", ":", "λ", ".", "≤", "<", "record", ","}
+BETWEEN = {"(", ")", "{", "}", ";", "=", "if", "then", "else", "let", "in", "→", "×", "≡", "∷", "++", "&&", "||", "+", "-", "*", "/", "%", "^", "-ℤ", ":", "λ", ".", "≤", "<", "==", "≢", "record", ","}
 SYMMETRIC = {"eqb", "min", "max"}  # whose arguments exchanged say the same
 JOINED = ["&&", "||", "++", "×"]  # a side of these can be left out
 SWAPPED = ["++", "∷", "-", "/", "%", "-ℤ", "≤", "<"]  # and of these the sides can be exchanged
-BOUND = re.compile(r"\([\w ′₁₂]+ : ")
+BOUND = re.compile(r"\([\w '₁₂]+ : ")
 Token = namedtuple("Token", "text start end")
 
 
@@ -64,7 +62,7 @@ def with_name(text, word):
     """The text, with a line that brings the word in where it has none."""
     for home, names in FROM.items():
         for name in names:
-            if word == name.strip("_") and not re.search(rf"^use [\w.·]+\.\{{[^}}]*(?<![\w-]){re.escape(name)}(?![\w-])", text, re.M):
+            if word == name.strip("◌") and not re.search(rf"^use [\w.]+\.\{{[^}}]*(?<![\w-]){re.escape(name)}(?![\w-])", text, re.M):
                 if not re.search(rf"^\s*(abbrev|unfoldable|pub)[^\n]* {re.escape(word)} :", text, re.M):
                     return re.sub(r"^use ", f"use {home}.{{{name}}}\nuse ", text, count=1, flags=re.M)
     return text
@@ -177,8 +175,8 @@ class Changes:
                 pieces = [piece((first + 1 + a, first + 1 + b)) for a, b in nested[1:3]]
                 tests = [self.text[slice(*at)] for at in (piece(atoms[1]), pieces[0])]
                 gives = [self.text[slice(*at)] for at in (piece(atoms[2]), pieces[1])]
-                asked = [re.fullmatch(r"\(eqb (.*) (\w+)\)", test) for test in tests]
-                if gives[0] != gives[1] and not (all(asked) and asked[0][1] == asked[1][1]):
+                asked = [re.fullmatch(r"\((?:eqb (.*) (\w+)|(.*) == (\w+))\)", test) for test in tests]
+                if gives[0] != gives[1] and not (all(asked) and (asked[0][1] or asked[0][3]) == (asked[1][1] or asked[1][3])):
                     self.swap((piece(atoms[1])[0], piece(atoms[2])[1]), (pieces[0][0], pieces[1][1]))
 
     def sides(self, toks):
@@ -226,7 +224,7 @@ class Changes:
 def cases_of(text):
     """Each case that the file names, with the one that is named after it."""
     found = {}
-    for names in re.findall(r"the-variants\.\{([^}]*)\}", text):
+    for names in re.findall(r"\.TheVariants\.\{([^}]*)\}", text):
         listed = [name.strip() for name in names.split(",")]
         for one, other in zip(listed, listed[1:] + listed[:1]):
             if one != other:

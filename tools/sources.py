@@ -137,9 +137,22 @@ def outside(function):
 
 # ---- crates
 
+# What crates.txt says of a crate: whether C links it as a static library, and what it names itself, the kit's libraries too.
+Row = namedtuple("Row", "is_static uses")
+ROW = re.compile(r"^\s*(?P<name>\w+)(?P<static> +staticlib)? *:(?P<uses>[^#\n]*)", re.M)
+
+
+def rows(root):
+    text = (root / "crates.txt").read_text()
+    return {found["name"]: Row(bool(found["static"]), found["uses"].split()) for found in ROW.finditer(text)}
+
+
 def crate_names(root):
-    lines = [line.split("#")[0] for line in (root / "crates.txt").read_text().splitlines()]
-    return [line.split(":")[0].strip() for line in lines if line.strip()]
+    return list(rows(root))
+
+
+def crate_row(root, crate):
+    return rows(root)[crate]
 
 
 def crate_functions(root, crate, edited=None):

@@ -15,16 +15,16 @@ TYPE = re.compile(r"^((?:#\[[^\n]*\]\n)*)(?:pub(?:\(crate\))? )?((?:struct|enum)
 Module = namedtuple("Module", "folder name text uses")
 
 
-def renamed(text):
+def renamed(text, crates):
     """The text with every name of a crate's module as it is here."""
-    text = re.sub(r"Rattle·(\w+)·(specs|proofs)\.\2\.", r"Rattle·\1.\2.", text)
-    text = re.sub(r"Rattle·(\w+)\.specs\.declared\.([a-z]\w*)\.", rf"Rattle·{CRATE}·specs.specs.declared.\1_\2.", text)
-    text = re.sub(r"Rattle·(?!uncoded)(\w+)\.specs\.declared\.", rf"Rattle·{CRATE}·specs.specs.declared.\1.", text)
-    return re.sub(r"Rattle·(?!uncoded)(\w+)\.(specs|proofs)\.(\w+)", rf"Rattle·{CRATE}·\2.\2.\1_\3", text)
+    crate = rf"\bRattle\.({'|'.join(map(re.escape, crates))})"
+    text = re.sub(rf"{crate}\.specs\.declared\.([a-z]\w*)\.", rf"Rattle.{CRATE}.specs.declared.\1_\2.", text)
+    text = re.sub(rf"{crate}\.specs\.declared\.", rf"Rattle.{CRATE}.specs.declared.\1.", text)
+    return re.sub(rf"{crate}\.(specs|proofs)\.(\w+)", rf"Rattle.{CRATE}.\2.\1_\3", text)
 
 
 def used(text):
-    found = re.findall(rf"Rattle·{CRATE}·(specs|proofs)\.\1\.(\w+)", text)
+    found = re.findall(rf"\bRattle\.{CRATE}\.(specs|proofs)\.(\w+)", text)
     return {f"{folder}/{name}" for folder, name in found if name != "declared"}
 
 
@@ -35,7 +35,7 @@ def modules(root, worked):
         for path in sorted((root / "crates" / crate).glob("*/*.antt")):
             folder, name = path.parent.name, path.stem
             if folder in ("specs", "proofs") and name != "Lib":
-                text = renamed(path.read_text())
+                text = renamed(path.read_text(), crate_names(root))
                 found[f"{folder}/{crate}_{name}"] = Module(folder, f"{crate}_{name}", text, used(text))
     kept = {key for key in found if key.startswith("specs/") or key.split("_")[-1] in worked}
     new = kept
@@ -60,7 +60,7 @@ def sources(root):
     """The files of src/: a module for each crate's types, which names those that it uses of others."""
     found = types(root)
     place = {name: module for module, items in found.items() for name in items}
-    files = {"lib.rt": "".join(f"pub mod {module};\n" for module in found)}
+    files = {"lib.rt": "#![tactic(auto)]\n\n" + "".join(f"pub mod {module};\n" for module in found)}
     for module, items in found.items():
         text = "\n".join(items.values())
         foreign = sorted({name for name in re.findall(r"\b[A-Z]\w*", text) if place.get(name, module) != module})

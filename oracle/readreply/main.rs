@@ -129,7 +129,7 @@ fn compare(options: &Options) -> ExitCode {
     process::watch();
     let there = options.program.exists();
     if !there {
-        println!("FAILED there is no program to run: rt check readreply makes it");
+        println!("FAILED there is no program to run: tools/build readreply makes it");
     }
     let tests = if there { run(options) } else { vec![false] };
     let failed = tests.iter().filter(|passed| !**passed).count();

@@ -1,53 +1,75 @@
-// Stands in for the kit's `io`, `libc` and `os`, where `readreply` is built as Rust.
+// Stands in for what `readreply` has of the kit's `std` and Rust's has not, where it is built as Rust: the handle that its
+// `main` takes, arguments by their number, and files that are opened through the handle.
 
-mod libc {
-    pub const STDIN_FILENO: i32 = 0;
-    pub const STDOUT_FILENO: i32 = 1;
-    pub const STDERR_FILENO: i32 = 2;
+mod kit {
+    pub struct HostRuntime;
 
-    mod c {
-        extern "C" {
-            pub fn read(file: i32, buffer: *mut u8, len: usize) -> isize;
-            pub fn isatty(file: i32) -> i32;
+    impl HostRuntime {
+        pub fn stdin(&self) -> std::io::Stdin {
+            std::io::stdin()
+        }
+
+        pub fn stdout(&self) -> std::io::Stdout {
+            std::io::stdout()
+        }
+
+        pub fn stderr(&self) -> std::io::Stderr {
+            std::io::stderr()
         }
     }
 
-    pub fn isatty(file: i32) -> i32 {
-        // SAFETY: it takes any number.
-        unsafe { c::isatty(file) }
-    }
-
-    pub fn read(file: i32, buffer: &mut [u8]) -> isize {
-        // SAFETY: pointer and length are those of a live slice.
-        unsafe { c::read(file, buffer.as_mut_ptr(), buffer.len()) }
-    }
-}
-
-mod io {
-    use std::io::Write;
-
-    pub fn large_buffer() -> [u8; 65536] {
-        [0; 65536]
-    }
-
-    pub fn count(got: isize, buffer: &[u8]) -> usize {
-        usize::try_from(got).unwrap_or(0).min(buffer.len())
-    }
-
-    pub fn write_all(file: i32, buffer: &[u8]) -> bool {
-        if file == super::libc::STDERR_FILENO {
-            return std::io::stderr().write_all(buffer).is_ok();
+    pub mod env {
+        pub enum FillError {
+            NotPresent,
+            TooLong,
         }
-        std::io::stdout().write_all(buffer).is_ok()
+
+        pub trait Env {
+            fn arg(&self, number: usize, buffer: &mut [u8]) -> Result<usize, FillError>;
+        }
+
+        impl Env for super::HostRuntime {
+            fn arg(&self, number: usize, buffer: &mut [u8]) -> Result<usize, FillError> {
+                let argument = std::env::args_os().nth(number).ok_or(FillError::NotPresent)?;
+                let bytes = std::os::unix::ffi::OsStrExt::as_bytes(argument.as_os_str());
+                let place = buffer.get_mut(..bytes.len()).ok_or(FillError::TooLong)?;
+                place.copy_from_slice(bytes);
+                Ok(bytes.len())
+            }
+        }
+    }
+
+    pub mod fs {
+        pub struct OpenOptions(std::fs::OpenOptions);
+
+        impl OpenOptions {
+            pub fn new() -> Self {
+                OpenOptions(std::fs::OpenOptions::new())
+            }
+
+            pub fn read(mut self, whether: bool) -> Self {
+                self.0.read(whether);
+                self
+            }
+
+            pub fn write(mut self, whether: bool) -> Self {
+                self.0.write(whether);
+                self
+            }
+
+            pub fn open(self, _: &super::HostRuntime, path: &str) -> std::io::Result<std::fs::File> {
+                self.0.open(path)
+            }
+        }
+    }
+
+    pub mod io {
+        pub use std::io::{IsTerminal, Read, Stdin, Write};
     }
 }
 
-mod os {
-    pub fn arg_count() -> usize {
-        std::env::args_os().len()
-    }
+use kit::HostRuntime;
 
-    pub fn open_update(_: &[u8]) -> i32 {
-        -1
-    }
+fn main() {
+    run(HostRuntime)
 }

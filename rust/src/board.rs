@@ -1,5 +1,5 @@
 //! Replies as a board sends them, for a bench that plays the board. Only with the feature `board`, which links
-//! `libwriters.a` (`rt staticlib writers`) beside `libdaly.a`.
+//! `libwriters.a` (`tools/build writers`) beside `libdaly.a`.
 //!
 //! What is written decodes to what was meant, for every input that is accepted: this is proved.
 //!

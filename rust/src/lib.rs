@@ -23,7 +23,7 @@
 //!
 //! All of it is done by calls into `libdaly.a` and `libwriters.a`, of which every function is proved. Nothing is
 //! worked out here: answers are turned into the types above, and memory is lent. Build the archives by
-//! `rt staticlib daly`, and for the feature `board` also `rt staticlib writers`; they run on x86-64 Linux.
+//! `tools/build daly`, and for the feature `board` also `tools/build writers`; they run on x86-64 Linux.
 //! `DALY_LIB_DIR` names their folder, from where you stand, where that is not `../target/staticlib` beside this crate.
 //!
 //! # Where it parts from `dalybms_lib`

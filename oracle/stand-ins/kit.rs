@@ -1,5 +1,5 @@
 // Stands in for what `readreply` has of the kit's `std` and Rust's has not, where it is built as Rust: the handle that its
-// `main` takes, arguments by their number, and files that are opened through the handle.
+// `main` takes, and arguments by their number.
 
 mod kit {
     pub struct HostRuntime;
@@ -35,30 +35,6 @@ mod kit {
                 let place = buffer.get_mut(..bytes.len()).ok_or(FillError::TooLong)?;
                 place.copy_from_slice(bytes);
                 Ok(bytes.len())
-            }
-        }
-    }
-
-    pub mod fs {
-        pub struct OpenOptions(std::fs::OpenOptions);
-
-        impl OpenOptions {
-            pub fn new() -> Self {
-                OpenOptions(std::fs::OpenOptions::new())
-            }
-
-            pub fn read(mut self, whether: bool) -> Self {
-                self.0.read(whether);
-                self
-            }
-
-            pub fn write(mut self, whether: bool) -> Self {
-                self.0.write(whether);
-                self
-            }
-
-            pub fn open(self, _: &super::HostRuntime, path: &str) -> std::io::Result<std::fs::File> {
-                self.0.open(path)
             }
         }
     }

@@ -110,9 +110,16 @@ def check(folder_of_crate, said, kept=None):
     return ran.stdout, ran.returncode == 0
 
 
+def is_current(root, crate, file):
+    """Whether the file is newer than all that it was built from."""
+    return file.is_file() and file.stat().st_mtime >= max(newest(root, name) for name in [*below(root, crate), crate])
+
+
 def build_archive(root, crate):
     """Writes out/libNAME.a of a static library: over what rt ci made, or by `rt lib`."""
     archive = out(root, crate) / f"lib{crate}.a"
+    if is_current(root, crate, archive):
+        return archive
     if made_by_ci(root, below(root, crate)):
         archive.parent.mkdir(exist_ok=True)
         archive.unlink(missing_ok=True)
@@ -129,9 +136,8 @@ def build_archive(root, crate):
 def build_program(root, crate):
     """The program that rt ci has built from what is in the tree now, or that `rt run` does."""
     program = out(root, crate) / crate
-    sources = max(newest(root, name) for name in [*below(root, crate), crate])
-    if not program.is_file() or program.stat().st_mtime < sources:
+    if not is_current(root, crate, program):
         ran = subprocess.run(["rt", "run"], cwd=root / "crates" / crate, stdin=subprocess.DEVNULL, stdout=subprocess.PIPE)
-        if not program.is_file() or program.stat().st_mtime < sources:
+        if not is_current(root, crate, program):
             raise Failed(f"`rt run` in crates/{crate} does not build it: exit status {ran.returncode}")
     return program

@@ -13,20 +13,20 @@ import edits
 # In a file of answers, what stood behind a dash, and what is to.
 Renamed = namedtuple("Renamed", "file old new")
 
-GONE = re.compile(r"^(?P<file>proofs/(?:[^/]+/)+Answers\.antt):.*?module `Rattle\.\S+\.Goals` has no `(?P<name>[^`]+)`")
+GONE = re.compile(r"^(?P<file>proofs/(?:[^/]+/)+Answers\.antt):.*?module `Rattle\.\S+\.Goals` has no `(?P<name>[^`]+)`(?P<names>[^.]*)")
 STEP = re.compile(r"^(?P<file>proofs/(?:[^/]+/)+Answers\.antt):.*? has no field `(?P<name>[^`]+)` \(nearest: (?P<names>[^)]*)\)")
 ASKED = re.compile(r"^note: .*?: it is not proved that .*?\(`(?P<name>[^`]+)`\)", re.M)
 # Behind these words stand the conditions.
 BEFORE = {"then", "else", "if", "in", "bounds", "returns"}
 
 
-def gone(log):
-    """The goals that files answer, and that the edited code does not have: the names, by file."""
+def lost(log, form, quoted):
+    """The names of this form that files have and the edited code has not, each with those that are most like it, by file."""
     found = {}
     for error in edits.errors_of(log):
-        it = GONE.match(f"{edits.place_of(error)}: {error['text']}")
+        it = form.match(f"{edits.place_of(error)}: {error['text']}")
         if it:
-            found.setdefault(it["file"], []).append(it["name"])
+            found.setdefault(it["file"], []).append((it["name"], re.findall(quoted, it["names"])))
     return found
 
 
@@ -37,8 +37,7 @@ def function_of(crate, file):
 
 def asked(log, path):
     """The goals of a function that are not proved, by its notes."""
-    above, line, _ = log.partition(f"\nfn {path}: ")
-    return ASKED.findall(re.split(r"^(?:fn|struct|enum) ", above, flags=re.M)[-1]) if line else []
+    return ASKED.findall(edits.notes_of(log, path))
 
 
 def start(one, other):
@@ -62,26 +61,23 @@ def pair(name, names):
     return ("-".join(old), "-".join(new)) if old and new else None
 
 
-def steps(log):
-    """The conditions that files name, and that the edited code does not have, each with those that are most like it, by file."""
-    found = {}
-    for error in edits.errors_of(log):
-        it = STEP.match(f"{edits.place_of(error)}: {error['text']}")
-        if it:
-            found.setdefault(it["file"], []).append((it["name"], re.findall(r"\.([^\s,]+)", it["names"])))
-    return found
+def one_each(pairs):
+    """Two new texts for one old one are none."""
+    pairs = dict.fromkeys(filter(None, pairs))
+    return {old: new for old, new in pairs if sum(old == other for other, _ in pairs) == 1}
 
 
-def renames(log, crate):
-    """What to rename, in which file: goals, or where none is gone, steps."""
-    pairs = {file: [pair(name, asked(log, function_of(crate, file))) for name in names] for file, names in gone(log).items()}
-    for file, named in steps(log).items():
-        pairs.setdefault(file, [pair(*it) for it in named])
+def renames(log, crate, text_of):
+    """What to rename, in which file: by the goals that are lost, and by the steps. `text_of` gives a file's text: a name that it
+    has already stands for something else."""
+    goals, steps = lost(log, GONE, r"`([^`]+)`"), lost(log, STEP, r"\.([^\s,]+)")
     found = []
-    for file, texts in pairs.items():
-        texts = dict.fromkeys(filter(None, texts))
-        # two new texts for one old one are none
-        found += [Renamed(file, old, new) for old, new in texts if sum(old == other for other, _ in texts) == 1]
+    for file in {**goals, **steps}:
+        known = set(re.findall(r"[\w-]+", text_of(file)))
+        new = asked(log, function_of(crate, file))
+        by_goals = one_each(pair(name, [it for it in [*new, *like] if it not in known]) for name, like in goals.get(file, ()))
+        by_steps = one_each(pair(name, [it for it in like if it not in known]) for name, like in steps.get(file, ()))
+        found += [Renamed(file, *it) for it in {**by_steps, **by_goals}.items()]
     return found
 
 

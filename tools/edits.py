@@ -179,6 +179,21 @@ def empty_refusal(log):
     return malformed(first) or unfit(first)
 
 
+def notes_of(log, path):
+    """What stands above the line of a function, down from the item before."""
+    above, line, _ = log.partition(f"\nfn {path}: ")
+    return re.split(r"^(?:fn|struct|enum) ", above, flags=re.M)[-1] if line else ""
+
+
+# Of a goal for which it has found such values.
+FALSE = re.compile(r"^note: .*: it is not proved that .*; the facts known there allow values at which this goal is false", re.M)
+
+
+def is_false(log, function):
+    """Whether the prover says of one of the function's goals that it is false."""
+    return bool(FALSE.search(notes_of(log, function.path)))
+
+
 def is_lost(log, function):
     return bool(re.search(rf"^fn {re.escape(function.path)}: (not proved|no proof)", log, re.M))
 
@@ -214,9 +229,8 @@ def own_errors(log, function):
 
 
 def own_notes(log, function):
-    """What stands above the line of a function without a proof file, down from the item before; else nothing."""
-    above, line, _ = log.partition(f"\nfn {function.path}: no proof")
-    return re.split(r"^(?:fn|struct) ", above, flags=re.M)[-1] if line else None
+    """What is said of a function without a proof file; else nothing."""
+    return notes_of(log, function.path) if f"\nfn {function.path}: no proof" in log else None
 
 
 def own_fault(log, function):
@@ -224,6 +238,8 @@ def own_fault(log, function):
     if not is_lost(log, function):
         return f"{function.path} is still proved: the edit shows nothing of it"
     first, notes = first_cause(own_errors(log, function)), own_notes(log, function)
+    if is_false(log, function):
+        return None
     if first:
         return unfit(first)
     if notes is None:

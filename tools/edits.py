@@ -4,6 +4,8 @@ An edit F.WHAT changes the text of the function F, public or not. A file togethe
 several functions, one of each: each begins with the line `# F.WHAT: what is wrong`. A file F.WHAT.edit is one
 edit by itself: of a definition or a constant, which F then does not meet, or of more than one function. Its
 comment says what is wrong.
+
+An edit keeps its name where its function has gone into another one: tools/renamed says which.
 """
 import re
 from collections import namedtuple
@@ -34,6 +36,23 @@ def is_together(file):
 
 def prefix_of(label):
     return label.rpartition(".")[0]
+
+
+RENAMED = re.compile(r"^(\w+) (\S+) +(\S.*)$", re.M)
+
+
+def renamed(root):
+    """By crate and what a label begins with: the paths of the functions that have taken the named one's place."""
+    file = root / "tools/renamed"
+    found = RENAMED.findall(file.read_text()) if file.is_file() else []
+    return {(crate, prefix): paths.split() for crate, prefix, paths in found}
+
+
+def is_of(root, function, label):
+    """Whether the label can be of this function; one that begins with a trait's name is of it in every `impl`."""
+    now = renamed(root).get((function.path.split("::")[0], prefix_of(label)))
+    in_trait = f"{sources.trait_name(function)}.{function.name}"
+    return function.path in now if now else prefix_of(label) in (sources.label_of(function), in_trait)
 
 
 def read_lines(lines, edits):
@@ -90,6 +109,26 @@ def changed(root, crate, functions, edit):
     return [function for function in functions if after.get(function.path) != function.text]
 
 
+def meant(root, crate, functions, edit):
+    """The functions that the edit's label can be of: of several those whose text it changes, if any."""
+    found = [function for function in functions if is_of(root, function, edit.label)]
+    paths = [function.path for function in changed(root, crate, functions, edit)] if len(found) > 1 else []
+    return [function for function in found if function.path in paths] or found
+
+
+def turns_type(root, crate, function, edit):
+    """Whether the edit changes a type that the function's `impl` names and nothing else: a conversion can be said there, by the
+    numbers of an enum."""
+    names = [word for word in function.head or () if re.match(r"[A-Z]", word)]
+    for place, old, _ in edit.pairs:
+        file = root / "crates" / crate / place
+        text = file.read_text() if file.is_file() else ""
+        types = [re.search(rf"^(?:pub )?(?:enum|struct) {name}\b.*?^\}}", text, re.M | re.S) for name in names]
+        if not any(found and old in found.group() for found in types):
+            return False
+    return bool(edit.pairs)
+
+
 # ---- the logs
 
 ERROR = re.compile(r"^(?!note: |fn |\s)(?P<place>.*?): error(?P<code>\[[\w-]+\])?: (?:`(?P<lemma>[^`]*)`: )?(?P<text>.*)")
@@ -101,7 +140,7 @@ FACTS = re.compile("|".join([
     r"`search`: no proof of `",
     r"`(?:simp|rw)`: no (?:equation of the list has an instance|occurrence of the path's (?:left|right) endpoint) in the (?:goal|hypothesis's type)",
     r"`(?:simp|rw)` has no last argument, so what it leaves must be a path whose two ends are equal, and ",
-    r"the two (?:types|values) (?:first differ|differ only) where one has `",
+    r"the two (?:types|values|sides) (?:first differ|differ only) where one has `",
     r"expected type `.*`,? but this has type `",
     r"` ≟ `.*`:? does not hold",
 ]))

@@ -9,7 +9,11 @@ from collections import namedtuple
 from sources import crate_names
 
 CRATE = "uncoded"
-TYPE = re.compile(r"^((?:#\[[^\n]*\]\n)*)(?:pub(?:\(crate\))? )?((?:struct|enum) (\w+) \{\n.*?^\})", re.M | re.S)
+TYPE = re.compile(r"^((?:#\[[^\n]*\]\n)*)(?:pub(?:\(crate\))? )?((?:struct|enum) (\w+)(?:<[^>{]*>)? \{\n.*?^\})", re.M | re.S)
+# What a type keeps true of itself, and the imports that this reads.
+FACT = re.compile(r"\bghost \w+: \{([^{}]*)\}")
+IMPORT = re.compile(r"^ghost use ([\w.]+)\.\{([^{}]*)\};", re.M)
+ALIAS = re.compile(r"^()pub (type (\w+)\b[^;{]*;)", re.M)
 
 # Where a module stands (`specs` or `proofs`), its name here, its text, and those of these modules that it uses.
 Module = namedtuple("Module", "folder name text uses")
@@ -45,26 +49,38 @@ def modules(root, worked):
     return {key: module for key, module in found.items() if key in kept}
 
 
+def imports(text, crates):
+    """Of a source's imports those that the facts of its types read."""
+    facts = " ".join(FACT.findall(text))
+    for path, names in IMPORT.findall(text):
+        kept = [name for name in names.split(", ") if name.strip("◌") in re.findall(r"[^\s(){}]+", facts)]
+        if kept:
+            yield renamed(f"ghost use {path}.{{{', '.join(kept)}}};\n", crates)
+
+
 def types(root):
-    """The crates' types, by the module that they are put in here."""
-    found = {}
-    for crate in crate_names(root):
+    """The crates' types, by the module that they are put in here, and the imports that these need."""
+    found, needed = {}, {}
+    crates = crate_names(root)
+    for crate in crates:
         for path in sorted((root / "crates" / crate / "src").glob("*.rt")):
             place = crate if path.stem in ("lib", "main") else f"{crate}_{path.stem}"
-            for attributes, item, name in TYPE.findall(path.read_text()):
+            text = path.read_text()
+            needed[place] = "".join(imports(text, crates))
+            for attributes, item, name in TYPE.findall(text) + ALIAS.findall(text):
                 found.setdefault(place, {})[name] = f"{attributes}pub {item}\n"
-    return found
+    return found, needed
 
 
 def sources(root):
     """The files of src/: a module for each crate's types, which names those that it uses of others."""
-    found = types(root)
+    found, needed = types(root)
     place = {name: module for module, items in found.items() for name in items}
     files = {"lib.rt": "#![tactic(auto)]\n\n" + "".join(f"pub mod {module};\n" for module in found)}
     for module, items in found.items():
         text = "\n".join(items.values())
         foreign = sorted({name for name in re.findall(r"\b[A-Z]\w*", text) if place.get(name, module) != module})
-        files[f"{module}.rt"] = "".join(f"use crate::{place[name]}::{name};\n" for name in foreign) + "\n" + text
+        files[f"{module}.rt"] = needed[module] + "".join(f"use crate::{place[name]}::{name};\n" for name in foreign) + "\n" + text
     return files
 
 

@@ -7,8 +7,8 @@ use crate::original::{self, ONLY_CHECKED};
 use crate::random::Random;
 use crate::trial::{Part, Trial};
 use dalybms_lib::protocol::*;
-use translated::frame::Check;
-use translated::reading;
+use translated::frame::{Mosfet, Refusal};
+use translated::reading::{self, Acknowledged as Ours};
 
 pub fn parts() -> Vec<Part> {
     [
@@ -35,11 +35,11 @@ pub fn parts() -> Vec<Part> {
 }
 
 /// In the order of `ONLY_CHECKED`.
-const OURS: [fn(&[u8]) -> Check; 4] = [
-    reading::decode_set_discharge_mosfet,
-    reading::decode_set_charge_mosfet,
-    reading::decode_set_soc,
-    reading::decode_bms_reset,
+const OURS: [fn(&[u8]) -> Result<(), Refusal>; 4] = [
+    |reply| Ours::SetMosfet(Mosfet::Discharge).decode(reply),
+    |reply| Ours::SetMosfet(Mosfet::Charge).decode(reply),
+    |reply| Ours::SetSoc.decode(reply),
+    |reply| Ours::BmsReset.decode(reply),
 ];
 
 /// One of the four.

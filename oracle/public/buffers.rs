@@ -7,7 +7,7 @@ use crate::random::Random;
 use crate::told::Answer;
 use crate::trial::{Part, Trial};
 use dalybms_lib::protocol::exposed;
-use translated::frame::{self, Check, Refusal};
+use translated::frame::{self, Refusal};
 
 pub const PARTS: &[Part] = &[
     Part::new("validate_len", "every length and size, 0 to 40", 41 * 41, lengths),
@@ -29,13 +29,13 @@ pub const PARTS: &[Part] = &[
 ];
 
 /// Document 01's number of what a check found, by the names alone.
-pub fn number(found: Check) -> u8 {
+pub fn number(found: Result<(), Refusal>) -> u8 {
     match found {
-        Check::Sound => 0,
-        Check::Refused(Refusal::ReplySizeError) => 1,
-        Check::Refused(Refusal::UnexpectedFrame) => 2,
-        Check::Refused(Refusal::CheckSumError) => 3,
-        Check::Refused(_) => 255,
+        Ok(()) => 0,
+        Err(Refusal::ReplySizeError) => 1,
+        Err(Refusal::UnexpectedFrame) => 2,
+        Err(Refusal::CheckSumError) => 3,
+        Err(_) => 255,
     }
 }
 

@@ -12,6 +12,12 @@ pub const PARTS: &[Part] = &[
         bits,
     ),
     Part::new("tenths_i32", "about powers of two, drawn", 60_000, tenths),
+    Part::new(
+        "wire",
+        "counts and their bytes, every count of two and drawn ones of four",
+        65_536,
+        counts,
+    ),
 ];
 
 /// A byte has no bit from 8 on.
@@ -25,6 +31,36 @@ fn bits(trial: &mut Trial) {
                 format!("byte {byte:02X} position {position}")
             });
         }
+    }
+}
+
+/// High byte first; each half and each byte is got back.
+fn counts(trial: &mut Trial) {
+    for count in (0..=u16::MAX).step_by(trial.stride()) {
+        let [high, low] = count.to_be_bytes();
+        let four = u32::from(count) << 16 | (trial.random.word() & 0xFFFF);
+        let (upper, lower) = ((four >> 16) as u16, four as u16);
+        let ours = [
+            u32::from(wire::high_byte(count)),
+            u32::from(wire::low_byte(count)),
+            u32::from(wire::two_bytes(high, low)),
+            u32::from(wire::high_half(four)),
+            u32::from(wire::low_half(four)),
+            wire::four_bytes(upper, lower),
+            u32::from(wire::flag_byte(count % 2 == 1)),
+        ];
+        let ours = trial.port.answered(ours);
+        let whole = [high, low].map(u32::from);
+        let rule = [
+            whole[0],
+            whole[1],
+            u32::from(count),
+            u32::from(upper),
+            u32::from(lower),
+            four,
+            u32::from(count % 2),
+        ];
+        trial.check(rule, ours, || format!("count {count} and {four}"));
     }
 }
 

@@ -7,7 +7,7 @@ use crate::one_frame::{self, Reads};
 use crate::original;
 use crate::random::Random;
 use crate::trial::{Part, Trial};
-use translated::frame::{self, Check, FrameKind};
+use translated::frame::{self, FrameKind, Refusal};
 
 const OF: &str = "frame_check and reply_check";
 
@@ -19,11 +19,11 @@ pub fn parts() -> Vec<Part> {
 struct Kinds;
 
 /// The address of a sound frame, where it is ours; else document 01's number.
-fn named(kind: FrameKind) -> u8 {
+fn named(kind: Result<FrameKind, Refusal>) -> u8 {
     match kind {
-        FrameKind::FromBoard => 0,
-        FrameKind::Echo => HOST,
-        FrameKind::Unsound(refusal) => number(Check::Refused(refusal)),
+        Ok(FrameKind::FromBoard) => 0,
+        Ok(FrameKind::Echo) => HOST,
+        Err(refusal) => number(Err(refusal)),
     }
 }
 
@@ -44,7 +44,7 @@ impl Reads for Kinds {
     fn compare(trial: &mut Trial, reply: &[u8], command: u8, known: Option<u8>) {
         let kind = frame::frame_check(reply, command);
         let checked = frame::reply_check(reply, command);
-        let ours = [named(kind), kind.number(), number(checked)];
+        let ours = [named(kind), frame::number_of(kind), number(checked)];
         let ours = trial.port.answered(ours);
         let rust = original::frame_check(reply, command);
         let known = told(known.unwrap_or(rust), reply);

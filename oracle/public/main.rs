@@ -13,6 +13,7 @@ mod counts;
 mod five;
 #[path = "../compare/frames.rs"]
 mod frames;
+mod inputs;
 mod kinds;
 #[path = "../compare/one_frame.rs"]
 mod one_frame;
@@ -55,6 +56,7 @@ fn run(seed: u64, small: bool) -> Vec<bool> {
         kinds::parts(),
         readers::STRICT.to_vec(),
         five::PARTS.to_vec(),
+        inputs::PARTS.to_vec(),
     ]
     .concat();
     let seeded = || (seed..).zip(&parts);

@@ -5,7 +5,7 @@ use crate::frames::{self, FRAME};
 use crate::original;
 use crate::trial::{Part, Trial};
 use dalybms_lib::protocol::{exposed, FrameReader as Rust};
-use translated::list::Listed;
+use translated::frame::number_of;
 use translated::reader::{Counts, FrameReader};
 
 pub const PARTS: &[Part] = &[
@@ -92,11 +92,11 @@ fn ours(reader: FrameReader, status: u8) -> Shown {
     assert_eq!(missing.number, completed.number);
     let mut out = [0; 1105];
     let count = match reader.copy_out(&mut out) {
-        Listed::Stored(count) => count,
-        Listed::NotStored(refusal) => {
+        Ok(count) => count,
+        Err(refusal) => {
             return (
                 status,
-                refusal.number(),
+                u8::from(refusal),
                 missing.missing,
                 missing.number,
                 completed.complete,
@@ -207,7 +207,7 @@ fn bad(trial: &mut Trial) {
                 frames: [0; 1105],
             },
         );
-        let number = trial.port.answered(reader.copy_out(&mut out).number());
+        let number = trial.port.answered(number_of(reader.copy_out(&mut out)));
         trial.check((9, [7; 12]), (number, out), || String::from("no room"));
     }
 }

@@ -3,7 +3,7 @@
 use crate::told::Answer;
 use crate::trial::{Part, Trial};
 use translated::report::{self, Tally};
-use translated::text;
+use translated::text::Text;
 
 pub const PARTS: &[Part] = &[
     Part::new(
@@ -11,6 +11,12 @@ pub const PARTS: &[Part] = &[
         "each function, anywhere in a buffer and past it",
         8 * 10_000,
         texts,
+    ),
+    Part::new(
+        "put_field and put_line",
+        "each kind of value, and a line for each of several",
+        16 * 10_000,
+        kinds,
     ),
     Part::new("put_hex2", "every byte", 256 * 7, every_byte),
     Part::new(
@@ -49,6 +55,13 @@ fn rule(mut buffer: Vec<u8>, at: usize, text: &str) -> Put {
     Put { next, buffer }
 }
 
+/// What a text's own methods put from a place on, and the place behind it.
+fn texted(out: &mut [u8], at: usize, put: impl FnOnce(&mut Text)) -> usize {
+    let mut text = Text { out, at };
+    put(&mut text);
+    text.at
+}
+
 /// One call, in a drawn buffer.
 fn compare(
     trial: &mut Trial,
@@ -75,36 +88,65 @@ fn drawn_at(trial: &mut Trial, length: usize) -> usize {
     }
 }
 
+/// What is drawn for a call: the buffer's length, the place, and a name of up to 13 letters.
+fn drawn(trial: &mut Trial) -> (usize, usize, &'static str) {
+    let length = trial.random.below(60);
+    let at = drawn_at(trial, length);
+    (length, at, &"total_voltage"[..trial.random.below(14)])
+}
+
 fn texts(trial: &mut Trial) {
     for _ in 0..trial.rounds(10_000) {
-        let length = trial.random.below(60);
-        let at = drawn_at(trial, length);
+        let (length, at, word) = drawn(trial);
         let fewer = trial.random.below(64);
         let n = trial.random.next() >> fewer;
         let z = (trial.random.word() as i32) >> (fewer / 2);
         let byte = trial.random.byte();
         let letter = char::from(b'a' + byte % 26);
-        let word = &"total_voltage"[..trial.random.below(14)];
         let name = word.as_bytes();
-        let mut put = |text: String, put: &dyn Fn(&mut [u8]) -> usize| {
-            compare(trial, at, length, &text, put);
+        let mut put = |text: String, put: &dyn Fn(&mut Text)| {
+            compare(trial, at, length, &text, |out| texted(out, at, put));
         };
-        put(letter.to_string(), &|out| {
-            text::put_byte(out, at, letter as u8)
-        });
-        put(word.to_string(), &|out| text::put_word(out, at, name));
-        put(n.to_string(), &|out| text::put_decimal(out, at, n));
-        put(z.to_string(), &|out| text::put_signed(out, at, z));
-        put(format!("{byte:02X}"), &|out| text::put_hex2(out, at, byte));
-        put(format!("{word} {n}"), &|out| {
-            text::put_field(out, at, name, n)
-        });
-        put(format!("{word} {n}\n"), &|out| {
-            text::put_line(out, at, name, n)
-        });
-        put(format!("{word} {z}\n"), &|out| {
-            text::put_signed_line(out, at, name, z)
-        });
+        put(letter.to_string(), &|text| text.put_byte(letter as u8));
+        put(word.to_string(), &|text| text.put_word(name));
+        put(n.to_string(), &|text| text.put_decimal(n));
+        put(z.to_string(), &|text| text.put_signed(z));
+        put(format!("{byte:02X}"), &|text| text.put_hex2(byte));
+        put(format!("{word} {n}"), &|text| text.put_field(name, n));
+        put(format!("{word} {n}\n"), &|text| text.put_line(name, n));
+        put(format!("{word} {z}\n"), &|text| text.put_line(name, z));
+    }
+}
+
+/// A flag is 0 or 1.
+fn kinds(trial: &mut Trial) {
+    for _ in 0..trial.rounds(10_000) {
+        let (length, at, word) = drawn(trial);
+        let (name, fewer) = (word.as_bytes(), trial.random.below(64));
+        let wide = trial.random.next() >> fewer;
+        let values = trial.random.bytes(length / 8);
+        let mut put = |text: String, put: &dyn Fn(&mut Text)| {
+            compare(trial, at, length, &text, |out| texted(out, at, put));
+        };
+        macro_rules! of_kinds {
+            ($($kind:ty)*) => {$(
+                let value = wide as $kind;
+                put(format!("{word} {value}"), &|text| text.put_field(name, value));
+                put(format!("{word} {value}\n"), &|text| text.put_line(name, value));
+            )*};
+        }
+        of_kinds!(u8 u16 u32 usize i8 i32);
+        let flag = wide % 2 == 1;
+        let digit = u8::from(flag);
+        put(format!("{word} {digit}"), &|text| text.put_field(name, flag));
+        put(format!("{word} {digit}\n"), &|text| text.put_line(name, flag));
+        let each = |value: &u8| format!("{word} {value}\n");
+        let lines: String = values.iter().map(each).collect();
+        put(lines, &|text| text.put_lines(name, &values));
+        let each = |value: &u8| format!("{word} {}\n", *value as i8);
+        let lines: String = values.iter().map(each).collect();
+        let values: Vec<i8> = values.iter().map(|value| *value as i8).collect();
+        put(lines, &|text| text.put_lines(name, &values));
     }
 }
 
@@ -113,7 +155,7 @@ fn every_byte(trial: &mut Trial) {
     for byte in 0..=255 {
         for at in [0, 1, 2, 3, 4, usize::MAX - 1, usize::MAX] {
             compare(trial, at, 3, &format!("{byte:02X}"), |out| {
-                text::put_hex2(out, at, byte)
+                texted(out, at, |text| text.put_hex2(byte))
             });
         }
     }

@@ -1,15 +1,18 @@
 -- Document 01, module 3: the 91 reply. Definitions only.
-use Rattle.std.specs.Prelude.{ℕ, List, pos}
+use Rattle.std.specs.Prelude.{ℕ, List, pos, Float, Result, Ok, Err}
 use Rattle.wire.specs.Bytes.{byte_at, count2}
+use Rattle.frame.specs.declared.refusal.Refusal.{Refusal}
 use Rattle.frame.specs.Checks.{frame_check}
 use Rattle.units.specs.Floats.{thousandths}
 use Rattle.frame.specs.Reply.{answer}
-use Rattle.cell_voltage_range.specs.declared.CellVoltageRangeCounts.{CellVoltageRangeCounts}
 use Rattle.cell_voltage_range.specs.declared.CellVoltageRange.{CellVoltageRange}
-use Rattle.cell_voltage_range.specs.declared.CellVoltageRangeCountsAnswer.{CellVoltageRangeCountsAnswer}
-use Rattle.cell_voltage_range.specs.declared.CellVoltageRangeCountsAnswer.TheVariants.{CellVoltageRangeCountsGiven, CellVoltageRangeCountsRefused}
-use Rattle.cell_voltage_range.specs.declared.CellVoltageRangeAnswer.{CellVoltageRangeAnswer}
-use Rattle.cell_voltage_range.specs.declared.CellVoltageRangeAnswer.TheVariants.{CellVoltageRangeGiven, CellVoltageRangeRefused}
+
+-- antt has no name for an alias
+abbrev pub CellVoltageRangeCounts : Type 0
+CellVoltageRangeCounts = CellVoltageRange ℕ
+
+abbrev pub CellVoltageRangeRecord : Type 0
+CellVoltageRangeRecord = CellVoltageRange Float
 
 -- "Two-byte counts are high byte first"; a cell's number is one byte
 abbrev pub cell_voltage_range_counts : List ℕ → CellVoltageRangeCounts
@@ -21,7 +24,7 @@ cell_voltage_range_counts s = record {
 }
 
 -- "thousandths by 1000.0"
-abbrev pub cell_voltage_range_of : CellVoltageRangeCounts → CellVoltageRange
+abbrev pub cell_voltage_range_of : CellVoltageRangeCounts → CellVoltageRangeRecord
 cell_voltage_range_of k = record {
   highest_voltage = thousandths (pos k.highest_voltage);
   highest_cell = k.highest_cell;
@@ -30,13 +33,13 @@ cell_voltage_range_of k = record {
 }
 
 -- refusals 1, 2, 3 of the frame check, else the counts
-abbrev pub decoded_cell_voltage_range_counts : List ℕ → CellVoltageRangeCountsAnswer
-decoded_cell_voltage_range_counts s = answer CellVoltageRangeCountsGiven CellVoltageRangeCountsRefused (frame_check 0x91 s) (cell_voltage_range_counts s)
+abbrev pub decoded_cell_voltage_range_counts : List ℕ → Result CellVoltageRangeCounts Refusal
+decoded_cell_voltage_range_counts s = answer (frame_check 0x91 s) (cell_voltage_range_counts s)
 
 -- the record of the counts; a refusal stays
-abbrev pub cell_voltage_range_answer : CellVoltageRangeCountsAnswer → CellVoltageRangeAnswer
-cell_voltage_range_answer (CellVoltageRangeCountsGiven k) = CellVoltageRangeGiven (cell_voltage_range_of k)
-cell_voltage_range_answer (CellVoltageRangeCountsRefused r) = CellVoltageRangeRefused r
+abbrev pub cell_voltage_range_answer : Result CellVoltageRangeCounts Refusal → Result CellVoltageRangeRecord Refusal
+cell_voltage_range_answer (Ok k) = Ok (cell_voltage_range_of k)
+cell_voltage_range_answer (Err r) = Err r
 
-abbrev pub decoded_cell_voltage_range : List ℕ → CellVoltageRangeAnswer
+abbrev pub decoded_cell_voltage_range : List ℕ → Result CellVoltageRangeRecord Refusal
 decoded_cell_voltage_range s = cell_voltage_range_answer (decoded_cell_voltage_range_counts s)

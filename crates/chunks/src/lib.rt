@@ -10,16 +10,11 @@ use reader::{Counts, Said, Standing, Told};
 fn chunk_size(size: usize, left: usize) -> usize
     ensures { (result ≤ left) × (0 < left → 0 < result) }
 {
-    if left <= size {
-        return left;
-    }
-    if size == 0 {
-        return 1;
-    }
-    size
+    size.max(1).min(left)
 }
 
-// The last status, and all bytes taken. The statement is that of one push of the whole stream: `size` is not in it.
+// The last status, and all bytes taken. The statement is that of one push of the whole stream: `size` is not in it, and is how long a chunk is to be, no
+// place in the stream. An empty stream pushes one empty chunk, since a push of none would tell no status: `stream.chunks(size)` has no turn there.
 #[unsafe(no_mangle)]
 pub extern "C" fn daly_push_in_chunks(
     frames: &mut [u8; 1105],
@@ -33,14 +28,7 @@ pub extern "C" fn daly_push_in_chunks(
     let mut status: u8 = 0;
     let mut took: usize = 0;
     let mut tally = counts.tally;
-    let mut c = Standing {
-        command: counts.command,
-        mark: counts.mark,
-        strict: counts.strict,
-        wanted: counts.wanted,
-        collected: counts.collected,
-        held: counts.held,
-    };
+    let mut c = Standing::from(counts);
     let mut more = true;
     while more {
         let n = chunk_size(size, stream.len() - at);
@@ -52,18 +40,7 @@ pub extern "C" fn daly_push_in_chunks(
         more = at < stream.len();
     }
     Told {
-        said: Said {
-            status: status,
-            took: took,
-        },
-        counts: Counts {
-            command: c.command,
-            mark: c.mark,
-            strict: c.strict,
-            tally: tally,
-            wanted: c.wanted,
-            collected: c.collected,
-            held: c.held,
-        },
+        said: Said { status, took },
+        counts: c.counted(tally),
     }
 }

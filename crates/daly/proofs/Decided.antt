@@ -16,10 +16,10 @@ use Rattle.wire.proofs.Decides.{Decides, same, both}
 use Rattle.reader.specs.Lent.{TurnedLent, OpenedLent, seen}
 use Rattle.reader.specs.Told.{missing_told, complete_told}
 use Rattle.reader.specs.declared.FrameReader.{FrameReader}
-use Rattle.reader.specs.declared.Opened.{Opened}
-use Rattle.reader.specs.declared.Turn.{Turn}
-use Rattle.reader.specs.declared.Missing.{Missing}
-use Rattle.reader.specs.declared.Completed.{Completed}
+use Rattle.reader.specs.declared.fresh.Opened.{Opened}
+use Rattle.reader.specs.declared.pushing.Turn.{Turn}
+use Rattle.reader.specs.declared.queries.Missing.{Missing}
+use Rattle.reader.specs.declared.queries.Completed.{Completed}
 use Rattle.reader.proofs.Agreeing.{TurnDecides, turned_once}
 use Rattle.list.specs.declared.ListTold.{ListTold}
 use Rattle.daly.specs.Lists.{TellsCollected}
@@ -37,6 +37,16 @@ use Rattle.daly.proofs.readings.daly_temperature_range.Reads as daly_temperature
 use Rattle.daly.proofs.readings.daly_mosfet_status.Reads as daly_mosfet_status
 use Rattle.daly.proofs.readings.daly_mosfet_status_counts.Reads as daly_mosfet_status_counts
 use Rattle.daly.proofs.readings.daly_status.Reads as daly_status
+use Rattle.daly.proofs.readings.SocToldFromResultSocRefusal.from.Reads as SocTold
+use Rattle.daly.proofs.readings.SocCountsToldFromResultSocCountsRefusal.from.Reads as SocCountsTold
+use Rattle.daly.proofs.readings.CellVoltageRangeToldFromResultCellVoltageRangeRefusal.from.Reads as CellVoltageRangeTold
+use Rattle.daly.proofs.readings.CellVoltageRangeCountsToldFromResultCellVoltageRangeCountsRefusal.from.Reads as CellVoltageRangeCountsTold
+use Rattle.daly.proofs.readings.TemperatureRangeToldFromResultTemperatureRangeRefusal.from.Reads as TemperatureRangeTold
+use Rattle.daly.proofs.readings.MosfetStatusToldFromResultMosfetStatusRefusal.from.Reads as MosfetStatusTold
+use Rattle.daly.proofs.readings.MosfetStatusCountsToldFromResultMosfetStatusCountsRefusal.from.Reads as MosfetStatusCountsTold
+use Rattle.daly.proofs.readings.StatusToldFromResultStatusRefusal.from.Reads as StatusTold
+use Rattle.daly.proofs.FrameKindToldFromResultFrameKindRefusal.from.Reads as FrameKindTold
+use Rattle.daly.proofs.packs.PackToldFromResultPackCheckRefusal.from.Reads as PackTold
 use Rattle.daly.proofs.lists.daly_cell_voltages_reply_size.Reads as daly_cell_voltages_reply_size
 use Rattle.daly.proofs.lists.daly_cell_temperatures_reply_size.Reads as daly_cell_temperatures_reply_size
 use Rattle.daly.proofs.lists.daly_cell_voltages.Reads as daly_cell_voltages
@@ -91,6 +101,36 @@ daly_mosfet_status_counts-decides κs a x y s t = same
 
 daly_status-decides : Decides daly_status.Post (λ κs r s. r)
 daly_status-decides κs a x y s t = same
+
+FrameKindTold-from-decides : Decides FrameKindTold.Post (λ κs r s. r)
+FrameKindTold-from-decides κs a x y s t = same
+
+SocTold-from-decides : Decides SocTold.Post (λ κs r s. r)
+SocTold-from-decides κs a x y s t = same
+
+SocCountsTold-from-decides : Decides SocCountsTold.Post (λ κs r s. r)
+SocCountsTold-from-decides κs a x y s t = same
+
+CellVoltageRangeTold-from-decides : Decides CellVoltageRangeTold.Post (λ κs r s. r)
+CellVoltageRangeTold-from-decides κs a x y s t = same
+
+CellVoltageRangeCountsTold-from-decides : Decides CellVoltageRangeCountsTold.Post (λ κs r s. r)
+CellVoltageRangeCountsTold-from-decides κs a x y s t = same
+
+TemperatureRangeTold-from-decides : Decides TemperatureRangeTold.Post (λ κs r s. r)
+TemperatureRangeTold-from-decides κs a x y s t = same
+
+MosfetStatusTold-from-decides : Decides MosfetStatusTold.Post (λ κs r s. r)
+MosfetStatusTold-from-decides κs a x y s t = same
+
+MosfetStatusCountsTold-from-decides : Decides MosfetStatusCountsTold.Post (λ κs r s. r)
+MosfetStatusCountsTold-from-decides κs a x y s t = same
+
+StatusTold-from-decides : Decides StatusTold.Post (λ κs r s. r)
+StatusTold-from-decides κs a x y s t = same
+
+PackTold-from-decides : Decides PackTold.Post (λ κs r s. r)
+PackTold-from-decides κs a x y s t = same
 
 daly_cell_voltages_reply_size-decides : Decides daly_cell_voltages_reply_size.Post (λ κs r s. r)
 daly_cell_voltages_reply_size-decides κs a x y s t = same

@@ -1,13 +1,16 @@
 // The library for controllers: what C calls, on numbers and byte slices. A `&[u8]` is a pointer and then a length.
+// An export cannot be generic, so here and in the modules each is its own line; and where it refuses, it answers a number, alone or beside
+// a record (include/daly.h): C has no `Result`.
 #![tactic(auto)]
 
 ghost use Rattle.std.specs.Prelude.{◌≡◌};
-ghost use Rattle.frame.specs.Refusals.{check_number};
+ghost use Rattle.frame.specs.Refusals.{answer_number};
 ghost use Rattle.frame.specs.Checks.{sum_of, frame_kind, part_check};
 ghost use Rattle.daly.specs.Kinds.{frame_kind_told};
-ghost use Rattle.daly.specs.Requests.{Requests};
+ghost use Rattle.daly.specs.Requests.{Requests, asked_for};
 
-use frame::FrameKind;
+use frame::{FrameKind, Mosfet, Refusal, command, number_of};
+use request::Query;
 
 mod lists;
 mod packs;
@@ -21,43 +24,53 @@ pub extern "C" fn daly_calc_crc(buffer: &[u8]) -> u8
     frame::calc_crc(buffer)
 }
 
-// 0, or why a frame is not sound; and whether a sound one is an echo.
+// 0, or why a frame is not sound; and whether a sound one is an echo. C reads it (include/daly.h).
 #[repr(C)]
-#[derive(Clone, Copy)]
+#[derive(Clone, Copy, Debug, Default, PartialEq, Eq)]
 pub struct FrameKindTold {
     pub number: u8,
     pub echo: bool,
+}
+
+impl From<Result<FrameKind, Refusal>> for FrameKindTold {
+    ghost from_gives = { λ kind told. told ≡ frame_kind_told kind };
+
+    fn from(kind: Result<FrameKind, Refusal>) -> FrameKindTold {
+        FrameKindTold {
+            number: number_of(kind),
+            echo: kind == Ok(FrameKind::Echo),
+        }
+    }
 }
 
 #[unsafe(no_mangle)]
 pub extern "C" fn daly_frame_check(buffer: &[u8], command: u8) -> FrameKindTold
     ensures { result ≡ frame_kind_told (frame_kind command buffer.now) }
 {
-    match frame::frame_check(buffer, command) {
-        FrameKind::FromBoard => FrameKindTold {
-            number: 0,
-            echo: false,
-        },
-        FrameKind::Echo => FrameKindTold {
-            number: 0,
-            echo: true,
-        },
-        FrameKind::Unsound(refusal) => FrameKindTold {
-            number: refusal.number(),
-            echo: false,
-        },
-    }
+    frame::frame_check(buffer, command).into()
 }
 
+// Of frame k, a number that C hands in (include/daly.h).
 #[unsafe(no_mangle)]
 pub extern "C" fn daly_frame_refusal(buffer: &[u8], k: usize) -> u8
-    ensures { result ≡ check_number (part_check buffer.now k) }
+    ensures { result ≡ answer_number (part_check buffer.now k) }
 {
     frame::frame_refusal(buffer, k)
 }
 
-// The request of a command, into `out`. `enable` is read for D9 and DA, `soc_percent` for 21.
-// A command that no request has is refused, and `out` stays as it was.
+// The request of a command. C has one call for all of them (include/daly.h): `enable` is read for D9 and DA, `soc_percent` for 21.
+fn request_of(command: u8, enable: bool, soc_percent: f32) -> Result<[u8; 13], Refusal>
+    ensures { result ≡ asked_for command enable soc_percent }
+{
+    match command {
+        command::SET_DISCHARGE_MOSFET => Ok(request::set_mosfet(Mosfet::Discharge, enable)),
+        command::SET_CHARGE_MOSFET => Ok(request::set_mosfet(Mosfet::Charge, enable)),
+        command::SET_SOC => Ok(request::set_soc(soc_percent)),
+        _ => Query::try_from(command).map(Query::request),
+    }
+}
+
+// That request, into `out`. A command that no request has is refused, and `out` stays as it was.
 #[unsafe(no_mangle)]
 pub extern "C" fn daly_request(
     command: u8,
@@ -67,21 +80,11 @@ pub extern "C" fn daly_request(
 ) -> u8
     ensures { Requests command enable soc_percent out.old result out.new }
 {
-    match command {
-        0x90 => *out = request::soc(),
-        0x91 => *out = request::cell_voltage_range(),
-        0x92 => *out = request::temperature_range(),
-        0x93 => *out = request::mosfet_status(),
-        0x94 => *out = request::status(),
-        0x95 => *out = request::cell_voltages(),
-        0x96 => *out = request::cell_temperatures(),
-        0x97 => *out = request::cell_balance_state(),
-        0x98 => *out = request::error_code(),
-        0xD9 => *out = request::set_discharge_mosfet(enable),
-        0xDA => *out = request::set_charge_mosfet(enable),
-        0x21 => *out = request::set_soc(soc_percent),
-        0x00 => *out = request::bms_reset(),
-        _ => return frame::Refusal::UnknownCommand.number(),
+    match request_of(command, enable, soc_percent) {
+        Ok(frame) => {
+            *out = frame;
+            0
+        },
+        Err(refusal) => refusal.into(),
     }
-    0
 }

@@ -1,4 +1,4 @@
-// The many-valued replies, for C: the number and how many values were stored, the values in lent memory.
+// The many-valued replies, for C: the number and how many values were stored, the values in lent memory. Each export is its own line: none can be generic.
 ghost use Rattle.std.specs.Prelude.{◌≡◌};
 ghost use Rattle.list.specs.Numbered.{reply_size};
 ghost use Rattle.daly.specs.Lists.{TellsVoltages, TellsMillivolts, TellsTemperatures, TellsBalance, TellsFaults};
@@ -23,14 +23,14 @@ pub extern "C" fn daly_cell_temperatures_reply_size(n_sensors: u8) -> usize
 pub extern "C" fn daly_cell_voltages(rx_buffer: &[u8], n_cells: u8, out: &mut [f32]) -> ListTold
     ensures { TellsVoltages rx_buffer.now n_cells out.old result out.new }
 {
-    list::decode_cell_voltages(rx_buffer, n_cells, out).told()
+    list::decode_cell_voltages(rx_buffer, n_cells, out).into()
 }
 
 #[unsafe(no_mangle)]
 pub extern "C" fn daly_cell_millivolts(rx_buffer: &[u8], n_cells: u8, out: &mut [u16]) -> ListTold
     ensures { TellsMillivolts rx_buffer.now n_cells out.old result out.new }
 {
-    list::decode_cell_millivolts(rx_buffer, n_cells, out).told()
+    list::decode_cell_millivolts(rx_buffer, n_cells, out).into()
 }
 
 #[unsafe(no_mangle)]
@@ -41,7 +41,7 @@ pub extern "C" fn daly_cell_temperatures(
 ) -> ListTold
     ensures { TellsTemperatures rx_buffer.now n_sensors out.old result out.new }
 {
-    list::decode_cell_temperatures(rx_buffer, n_sensors, out).told()
+    list::decode_cell_temperatures(rx_buffer, n_sensors, out).into()
 }
 
 #[unsafe(no_mangle)]
@@ -52,7 +52,7 @@ pub extern "C" fn daly_cell_balance_state(
 ) -> ListTold
     ensures { TellsBalance rx_buffer.now n_cells out.old result out.new }
 {
-    flags::decode_cell_balance_state(rx_buffer, n_cells, out).told()
+    flags::decode_cell_balance_state(rx_buffer, n_cells, out).into()
 }
 
 // Positions in the Rust's `ErrorCode`.
@@ -60,5 +60,5 @@ pub extern "C" fn daly_cell_balance_state(
 pub extern "C" fn daly_error_codes(rx_buffer: &[u8], out: &mut [u8]) -> ListTold
     ensures { TellsFaults rx_buffer.now out.old result out.new }
 {
-    flags::decode_error_codes(rx_buffer, out).told()
+    flags::decode_error_codes(rx_buffer, out).into()
 }

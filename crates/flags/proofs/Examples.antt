@@ -6,11 +6,11 @@ use mathlib.Core.Bool.{Bool, true, false}
 use mathlib.Core.List.{List, [], ◌∷◌, ◌++◌, map}
 use lib.ListN.{take, length, replicate}
 use Rattle.wire.specs.Lists.{firsts}
-use Rattle.frame.specs.Refusals.{check_number}
+use Rattle.std.specs.Prelude.{Result, Ok}
+use Rattle.frame.specs.declared.refusal.Refusal.{Refusal}
+use Rattle.frame.specs.Refusals.{answer_number}
 use Rattle.frame.specs.Frame.{total, sum, summed, frame}
 use Rattle.frame.specs.Checks.{sum_of, len_check, header_check, checksum_check, frame_check}
-use Rattle.list.specs.declared.Listed.{Listed}
-use Rattle.list.specs.declared.Listed.TheVariants.{Stored}
 use Rattle.list.specs.Listed.{gate}
 use Rattle.flags.specs.Balance.{flag_count, flag_at, balance_check, DecodesBalance}
 use Rattle.flags.specs.Faults.{faults, faults_check, DecodesFaults}
@@ -35,19 +35,19 @@ examples :
     ∷ faults (three 0x98)
     ∷ faults all
     -- 97: 0; 1 before 9; 9 before 2, with one place for n = 0 and 48 for n = 255; 2 before 3; 3, also where a 00 follows the frame
-    ∷ (check_number (balance_check (three 0x97) 48 48)
-    ∷ check_number (balance_check (take 12 (three 0x97)) 48 47)
-    ∷ check_number (balance_check (three 0x98) 0 0)
-    ∷ check_number (balance_check (three 0x98) 255 47)
-    ∷ check_number (balance_check (three 0x98 ++ (0 ∷ [])) 255 48)
-    ∷ check_number (balance_check (three 0x97 ++ (0 ∷ [])) 255 48)
+    ∷ (answer_number (balance_check (three 0x97) 48 48)
+    ∷ answer_number (balance_check (take 12 (three 0x97)) 48 47)
+    ∷ answer_number (balance_check (three 0x98) 0 0)
+    ∷ answer_number (balance_check (three 0x98) 255 47)
+    ∷ answer_number (balance_check (three 0x98 ++ (0 ∷ [])) 255 48)
+    ∷ answer_number (balance_check (three 0x97 ++ (0 ∷ [])) 255 48)
     ∷ [])
     -- 98: the same
-    ∷ (check_number (faults_check (three 0x98) 48)
-    ∷ check_number (faults_check (take 12 (three 0x98)) 47)
-    ∷ check_number (faults_check (three 0x97) 47)
-    ∷ check_number (faults_check (three 0x97 ++ (0 ∷ [])) 48)
-    ∷ check_number (faults_check (three 0x98 ++ (0 ∷ [])) 48)
+    ∷ (answer_number (faults_check (three 0x98) 48)
+    ∷ answer_number (faults_check (take 12 (three 0x98)) 47)
+    ∷ answer_number (faults_check (three 0x97) 47)
+    ∷ answer_number (faults_check (three 0x97 ++ (0 ∷ [])) 48)
+    ∷ answer_number (faults_check (three 0x98 ++ (0 ∷ [])) 48)
     ∷ [])
     ∷ [])
     ((1 ∷ 48 ∷ 1 ∷ 48 ∷ 48 ∷ [])
@@ -97,11 +97,11 @@ unfolding total sum summed frame
 outer_flags = refl
 
 -- what the statements say of the answer and of the lent places
-nine_flags : (r : Listed) (exit : List Bool) → DecodesBalance outer 9 (replicate 10 true) r exit
-    → (r ≡ Stored 9) × (exit ≡ replicate 8 false ++ (true ∷ true ∷ []))
+nine_flags : (r : Result ℕ Refusal) (exit : List Bool) → DecodesBalance outer 9 (replicate 10 true) r exit
+    → (r ≡ Ok 9) × (exit ≡ replicate 8 false ++ (true ∷ true ∷ []))
 unfolding total sum summed frame sum_of len_check header_check checksum_check frame_check gate
 nine_flags r exit d = (d.answer, d.left)
 
-two-faults : (r : Listed) (exit : List ℕ) → DecodesFaults (three 0x98) (replicate 48 99) r exit → (r ≡ Stored 2) × (exit ≡ 17 ∷ 16 ∷ replicate 46 99)
+two-faults : (r : Result ℕ Refusal) (exit : List ℕ) → DecodesFaults (three 0x98) (replicate 48 99) r exit → (r ≡ Ok 2) × (exit ≡ 17 ∷ 16 ∷ replicate 46 99)
 unfolding total sum summed frame sum_of len_check header_check checksum_check frame_check gate faults
 two-faults r exit d = (d.answer, d.left)

@@ -1,3 +1,4 @@
 pub mod Noting
+pub mod Framed
 pub mod Examples
 pub mod Decided

@@ -3,13 +3,14 @@ use mathlib.Core.Path.{◌≡◌, refl, sym, ap, ◌∙◌}
 use mathlib.Core.Bool.{Bool, true, false, cond}
 use mathlib.Core.List.{List, [], ◌∷◌, ◌++◌, append_assoc, append-nil}
 use Prim.Native.Nat.{ℕ, zero, suc, ◌+◌, ◌≤◌}
-use native.Mathlib.Nat.{add-zero, zero-add, add-suc, suc-add}
+use native.Mathlib.Nat.{add-zero, zero-add}
 use native.Mathlib.Numerals.{add-one}
 use native.Mathlib.Omega.{arith}
 use lib.ListN.{length, set, drop, length-append}
 use lib.Seq.{sets, sets-eq, length-sets}
 use Rattle.wire.specs.Bytes.{byte_at, bit}
 use Rattle.wire.specs.Lists.{firsts}
+use Rattle.wire.proofs.Sets.{sets_append}
 use Rattle.flags.specs.Faults.{Test, found, faults_by}
 use Rattle.flags.specs.Noted.{Noted}
 
@@ -35,12 +36,6 @@ faults-more s f n =
     ∙ ap (λ l. faults_by s (firsts f n) ++ l) (append-nil (found s (f n)))
 
 -- ---- stores
-
-sets_append : (vs ws l : List ℕ) (i : ℕ) → sets (sets l i vs) (i + length vs) ws ≡ sets l i (vs ++ ws)
-sets_append [] ws l i = ap (λ k. sets l k ws) (add-zero i)
-sets_append (v ∷ vs) ws l i =
-    ap (λ k. sets (sets (set l i v) (suc i) vs) k ws) (add-suc i (length vs) ∙ sym (suc-add i (length vs)))
-    ∙ sets_append vs ws (set l i v) (suc i)
 
 pub noted_none : (d : List ℕ) (at : ℕ) → Noted d at 0 [] d at
 noted_none d at = record { count = sym (add-zero at); few = omega arith; left = refl }

@@ -1,10 +1,10 @@
 -- Document 01, module 4, faults: "48, in the order in which `decode` tests them, written as positions in `ErrorCode` from 0". Definitions only.
-use Rattle.std.specs.Prelude.{ℕ, ◌+◌, cond, List, [], ◌∷◌, ◌++◌, length}
+use Rattle.std.specs.Prelude.{ℕ, ◌+◌, cond, List, [], ◌∷◌, ◌++◌, length, Result}
 use Rattle.wire.specs.Bytes.{byte_at, bit}
 use Rattle.wire.specs.Lists.{firsts}
-use Rattle.frame.specs.declared.Check.{Check}
+use Rattle.frame.specs.declared.refusal.Refusal.{Refusal}
+use Rattle.frame.specs.Refusals.{Check}
 use Rattle.frame.specs.Checks.{frame_check}
-use Rattle.list.specs.declared.Listed.{Listed}
 use Rattle.list.specs.Listed.{gate, Stores}
 
 -- one of the 48 tests: a bit of a byte of the reply, and the fault's position
@@ -50,5 +50,5 @@ abbrev pub faults_check : List ℕ → ℕ → Check
 faults_check s room = gate 13 48 room s (frame_check 0x98 s)
 
 -- the statement: of the reply s, the lent places before and after, and the answer
-abbrev pub DecodesFaults : List ℕ → List ℕ → Listed → List ℕ → Type 0
+abbrev pub DecodesFaults : List ℕ → List ℕ → Result ℕ Refusal → List ℕ → Type 0
 DecodesFaults s out r exit = Stores (faults_check s (length out)) (faults s) out r exit

@@ -1,7 +1,16 @@
--- What the private functions that list faults say of their part. No promise cites it. Definitions only.
-use Rattle.std.specs.Prelude.{ℕ, ◌+◌, ◌≤◌, ◌≡◌, List, ◌++◌, length}
+-- What the private functions say of their part. No promise cites it. Definitions only.
+use Rattle.std.specs.Prelude.{ℕ, ◌+◌, ◌≤◌, ◌≡◌, List, ◌++◌, length, take}
 use Rattle.std.proofs.lemmas.List.Edits.{sets}
+use Rattle.frame.specs.Refusals.{sound}
+use Rattle.frame.specs.Checks.{frame_check}
+use Rattle.list.specs.Listed.{gate}
 use Rattle.flags.specs.Faults.{Test, run}
+
+-- the frame of a reply with room for its values, where the whole check finds nothing
+pub record IsRoomy (command places room : ℕ) (s frame : List ℕ) : Type 0 where
+  pub checked : gate 13 places room s (frame_check command s) ≡ sound
+  pub bytes : frame ≡ take 13 s
+  pub room_for : places ≤ room
 
 -- values put into `out` from place `at` on, at most `most` of them, and the place after them
 pub record Noted (out : List ℕ) (at most : ℕ) (values exit : List ℕ) (next : ℕ) : Type 0 where

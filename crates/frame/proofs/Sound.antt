@@ -3,7 +3,7 @@ use Rattle.std.proofs.Common.{◌≡◌, ℕ, ◌+◌, ◌-◌, ◌<◌, List, [
 use lib.ListN.{get_or-append}
 use lib.Seq.{get_or_at}
 use Rattle.wire.specs.Bytes.{byte_at}
-use Rattle.frame.specs.declared.Check.TheVariants.{Sound}
+use Rattle.frame.specs.Refusals.{sound}
 use Rattle.frame.specs.Frame.{sum, summed, frame}
 use Rattle.frame.specs.Checks.{sum_of, len_check, header_check, checksum_check, frame_check}
 
@@ -42,7 +42,7 @@ module _ (address command : ℕ) (d : List ℕ) (h : length d ≡ 8) where
       get_or-append-add (0xA5 ∷ address ∷ command ∷ 8 ∷ []) (d ++ (sum (body address command d) ∷ [])) j 0
       ∙ get_or-append d (sum (body address command d) ∷ []) 0 j (omega arith)
 
-  pub frame_sound : frame_check command (frame address command d) ≡ Sound
+  pub frame_sound : frame_check command (frame address command d) ≡ sound
   unfolding frame_check len_check header_check checksum_check sum_of
   frame_sound =
       let s : List ℕ = frame address command d in

@@ -2,14 +2,16 @@
 use mathlib.Core.Path.{◌≡◌, ap, ◌∙◌}
 use mathlib.Core.List.{List}
 use Rattle.wire.proofs.Decides.{both, same-both}
-use Rattle.frame.specs.declared.Check.{Check}
-use Rattle.list.specs.declared.Listed.{Listed}
+use Prim.Native.Nat.{ℕ}
+use Rattle.std.specs.Prelude.{Result}
+use Rattle.frame.specs.declared.refusal.Refusal.{Refusal}
+use Rattle.frame.specs.Refusals.{Check}
 use Rattle.list.specs.Listed.{Stores, list_told, Tells}
 use Rattle.list.specs.declared.ListTold.{ListTold}
 
 module _ {A : Type 0} {check : Check} {values out exit : List A} {r : ListTold} where
   -- listed is what the decoder answered
-  pub tells : {listed : Listed} → Stores check values out listed exit → r ≡ list_told listed → Tells check values out r exit
+  pub tells : {listed : Result ℕ Refusal} → Stores check values out listed exit → r ≡ list_told listed → Tells check values out r exit
   tells d e = record { answer = e ∙ ap list_told d.answer; left = d.left }
 
   pub tells_one : {q : ListTold} {other : List A} → Tells check values out r exit → Tells check values out q other → both r exit ≡ both q other

@@ -2,3 +2,5 @@
 pub mod Listed
 pub mod Numbered
 pub mod Cells
+pub mod Judged
+pub mod Kinds

@@ -5,14 +5,14 @@ use mathlib.Core.List.{[], ◌∷◌, ◌++◌}
 use lib.IntN.{pos, neg_ℤ}
 use lib.Ieee.{nan, inf, binary32, of_bits, to_bits, of_int, round}
 use lib.ListN.{replicate}
-use Rattle.frame.specs.declared.Refusal.TheVariants.{CheckSumError}
+use Rattle.std.proofs.Common.{Ok, Err}
+use Rattle.frame.specs.declared.refusal.Refusal.TheVariants.{CheckSumError}
 use Rattle.frame.specs.Refusals.{refusal_number}
 use Rattle.frame.specs.Frame.{total, sum, summed, frame}
 use Rattle.frame.specs.Checks.{sum_of, len_check, header_check, checksum_check, frame_check}
 use Rattle.units.specs.Floats.{nearest}
 use Rattle.units.specs.SetSoc.{set_soc_count}
 use Rattle.request.specs.Requests.{set_soc_request}
-use Rattle.soc.specs.declared.SocCountsAnswer.TheVariants.{SocCountsGiven, SocCountsRefused}
 use Rattle.soc.specs.Soc.{decoded_soc_counts}
 use Rattle.flags.specs.Faults.{faults}
 use Rattle.rules.specs.Rules.{sum_right, restarts, judge, look, stay, after, drops}
@@ -42,8 +42,8 @@ unfolding set_soc_count round
 p5-all = (refl, refl, refl)
 
 p6-both :
-    (decoded_soc_counts soc ≡ SocCountsGiven record { total_voltage = 523; current = neg_ℤ (pos 121); soc_percent = 874 })
-    × (decoded_soc_counts (soc ++ (0x00 ∷ [])) ≡ SocCountsRefused CheckSumError)
+    (decoded_soc_counts soc ≡ Ok record { total_voltage = 523; current = neg_ℤ (pos 121); soc_percent = 874 })
+    × (decoded_soc_counts (soc ++ (0x00 ∷ [])) ≡ Err CheckSumError)
     × (refusal_number CheckSumError ≡ 3)
 unfolding frame_check len_check header_check checksum_check sum_of sum total
 p6-both = (refl, refl, refl)

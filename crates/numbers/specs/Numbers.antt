@@ -1,21 +1,20 @@
 -- Document 01, "Numbers to check": P1 to P14 as one statement, over the definitions that the contracts cite. Definitions only.
-use Rattle.std.specs.Prelude.{ℕ, ◌≡◌, Bool, true, false, List, [], ◌∷◌, ◌++◌, ℤ, pos, neg_ℤ, replicate}
+use Rattle.std.specs.Prelude.{ℕ, ◌≡◌, Bool, true, false, List, [], ◌∷◌, ◌++◌, ℤ, pos, neg_ℤ, replicate, Result, Ok, Err}
 use Rattle.std.specs.Float.{nan, inf, binary32}
 use Rattle.std.specs.Float.Ieee.{of_bits, to_bits, round}
-use Rattle.frame.specs.declared.Refusal.TheVariants.{CheckSumError}
+use Rattle.frame.specs.declared.refusal.Refusal.{Refusal}
+use Rattle.frame.specs.declared.refusal.Refusal.TheVariants.{CheckSumError}
 use Rattle.frame.specs.Refusals.{refusal_number}
 use Rattle.frame.specs.Frame.{frame}
 use Rattle.units.specs.Floats.{nearest}
 use Rattle.units.specs.SetSoc.{set_soc_count}
 use Rattle.request.specs.Requests.{read_request, set_soc_request}
-use Rattle.soc.specs.declared.SocCountsAnswer.TheVariants.{SocCountsGiven, SocCountsRefused}
 use Rattle.soc.specs.Soc.{decoded_soc_counts}
 use Rattle.temperature_range.specs.TemperatureRange.{temperature_of}
 use Rattle.flags.specs.Balance.{flag_count}
 use Rattle.flags.specs.Faults.{faults}
 use Rattle.rules.specs.Reader.{Answer, all_of, fresh, answer, completeness}
-use Rattle.pack.specs.declared.PackAnswer.{PackAnswer}
-use Rattle.pack.specs.declared.PackAnswer.TheVariants.{PackChecked}
+use Rattle.pack.specs.declared.PackCheck.{PackCheck}
 use Rattle.pack.specs.Pack.{pack_answer}
 
 -- "the frame in the input above"
@@ -47,8 +46,8 @@ told a =
 abbrev pub read : ℕ → ℕ → List ℕ → Told
 read command wanted stream = told (answer (fresh record { command = command; wanted = wanted; strict = false }) stream)
 
-abbrev pub weighed : ℤ → Bool → PackAnswer
-weighed difference agrees = PackChecked record { difference = difference; agrees = agrees }
+abbrev pub weighed : ℤ → Bool → Result PackCheck Refusal
+weighed difference agrees = Ok record { difference = difference; agrees = agrees }
 
 pub record Numbers : Type 0 where
   -- "`Soc` request: A5 40 90 08, eight zeros, 7D"
@@ -65,8 +64,8 @@ pub record Numbers : Type 0 where
   pub p5 : (set_soc_count nan ≡ 0) × (set_soc_count (inf false) ≡ 1000) × (set_soc_count (round binary32 true 4 100) ≡ 0)
   -- "the frame in the input above: counts 523, −121, 874. With a 00 appended it is refused 3."
   pub p6 :
-      (decoded_soc_counts soc ≡ SocCountsGiven record { total_voltage = 523; current = neg_ℤ (pos 121); soc_percent = 874 })
-      × (decoded_soc_counts (soc ++ (0x00 ∷ [])) ≡ SocCountsRefused CheckSumError)
+      (decoded_soc_counts soc ≡ Ok record { total_voltage = 523; current = neg_ℤ (pos 121); soc_percent = 874 })
+      × (decoded_soc_counts (soc ++ (0x00 ∷ [])) ≡ Err CheckSumError)
       × (refusal_number CheckSumError ≡ 3)
   -- "temperature byte 167 is 127, 168 is −128, 255 is −41"
   pub p7 : (temperature_of 167 ≡ pos 127) × (temperature_of 168 ≡ neg_ℤ (pos 128)) × (temperature_of 255 ≡ neg_ℤ (pos 41))

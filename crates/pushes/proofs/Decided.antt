@@ -11,7 +11,7 @@ use denote.Triple.Clauses.{AtExit}
 use denote.Triple.Entry.{Args}
 use Rattle.wire.proofs.Decides.{Decides, both}
 use Rattle.reader.specs.Lent.{AnsweredLent}
-use Rattle.reader.specs.declared.Said.{Said}
+use Rattle.reader.specs.declared.pushing.Said.{Said}
 use Rattle.reader.proofs.Promise.{told, shown, told_once, pushed_once}
 use Rattle.reader.proofs.Agreeing.{LentDecides, answered_once}
 use Rattle.pushes.proofs.daly_push_by_value.Reads as daly_push_by_value

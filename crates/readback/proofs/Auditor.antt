@@ -8,30 +8,21 @@ use native.Mathlib.Omega.{arith}
 use lib.IntN.{ℤ, pos, negsuc}
 use lib.Ieee.{Float}
 use lib.ListN.{length, drop}
+use Rattle.std.specs.Prelude.{Result, Ok}
 use Rattle.wire.specs.Lists.{firsts}
-use Rattle.frame.specs.declared.Check.TheVariants.{Sound}
+use Rattle.frame.specs.Refusals.{sound}
 use Rattle.frame.specs.Frame.{total, sum, summed, frame}
 use Rattle.frame.specs.Checks.{frame_check}
 use Rattle.units.specs.Floats.{tenths, thousandths}
-use Rattle.soc.specs.declared.SocCountsAnswer.TheVariants.{SocCountsGiven}
-use Rattle.soc.specs.declared.SocAnswer.TheVariants.{SocGiven}
 use Rattle.soc.specs.Soc.{decoded_soc_counts, decoded_soc}
-use Rattle.cell_voltage_range.specs.declared.CellVoltageRangeCounts.{CellVoltageRangeCounts}
-use Rattle.cell_voltage_range.specs.declared.CellVoltageRangeCountsAnswer.TheVariants.{CellVoltageRangeCountsGiven}
-use Rattle.cell_voltage_range.specs.declared.CellVoltageRangeAnswer.TheVariants.{CellVoltageRangeGiven}
-use Rattle.cell_voltage_range.specs.CellVoltageRange.{decoded_cell_voltage_range_counts, decoded_cell_voltage_range}
+use Rattle.cell_voltage_range.specs.CellVoltageRange.{CellVoltageRangeCounts, decoded_cell_voltage_range_counts, decoded_cell_voltage_range}
 use Rattle.temperature_range.specs.declared.TemperatureRange.{TemperatureRange}
-use Rattle.temperature_range.specs.declared.TemperatureRangeAnswer.TheVariants.{TemperatureRangeGiven}
 use Rattle.temperature_range.specs.TemperatureRange.{decoded_temperature_range}
 use Rattle.mosfet_status.specs.declared.MosfetMode.TheVariants.{Discharging}
-use Rattle.mosfet_status.specs.declared.MosfetStatusCountsAnswer.TheVariants.{MosfetStatusCountsGiven}
-use Rattle.mosfet_status.specs.declared.MosfetStatusAnswer.TheVariants.{MosfetStatusGiven}
 use Rattle.mosfet_status.specs.MosfetStatus.{mosfet_status_of, decoded_mosfet_status_counts, decoded_mosfet_status}
 use Rattle.status.specs.declared.Status.{Status}
-use Rattle.status.specs.declared.StatusAnswer.TheVariants.{StatusGiven}
 use Rattle.status.specs.Status.{decoded_status}
-use Rattle.list.specs.declared.Listed.{Listed}
-use Rattle.list.specs.declared.Listed.TheVariants.{Stored}
+use Rattle.frame.specs.declared.refusal.Refusal.{Refusal}
 use Rattle.list.specs.Numbered.{frames_for}
 use Rattle.list.specs.Cells.{DecodesMillivolts, DecodesVoltages, DecodesTemperatures}
 use Rattle.flags.specs.Balance.{DecodesBalance}
@@ -59,8 +50,8 @@ abbrev soc : SocWire
 soc = record { total_voltage = 523; current = 29879; soc_percent = 874 }
 
 read-soc : ReadBack
-    → (decoded_soc_counts frame90 ≡ SocCountsGiven (record { total_voltage = 523; current = negsuc 120; soc_percent = 874 }))
-    × (decoded_soc frame90 ≡ SocGiven (record { total_voltage = tenths (pos 523); current = tenths (negsuc 120); soc_percent = tenths (pos 874) }))
+    → (decoded_soc_counts frame90 ≡ Ok (record { total_voltage = 523; current = negsuc 120; soc_percent = 874 }))
+    × (decoded_soc frame90 ≡ Ok (record { total_voltage = tenths (pos 523); current = tenths (negsuc 120); soc_percent = tenths (pos 874) }))
 unfolding frame summed sum total
 read-soc back = (back.soc-counts 1 soc, back.soc 1 soc)
 
@@ -71,9 +62,9 @@ abbrev range : CellVoltageRangeCounts
 range = record { highest_voltage = 3310; highest_cell = 4; lowest_voltage = 3290; lowest_cell = 9 }
 
 read-range : ReadBack
-    → (decoded_cell_voltage_range_counts frame91 ≡ CellVoltageRangeCountsGiven range)
+    → (decoded_cell_voltage_range_counts frame91 ≡ Ok range)
     × (decoded_cell_voltage_range frame91
-    ≡ CellVoltageRangeGiven (record { highest_voltage = thousandths (pos 3310); highest_cell = 4; lowest_voltage = thousandths (pos 3290); lowest_cell = 9 }))
+    ≡ Ok (record { highest_voltage = thousandths (pos 3310); highest_cell = 4; lowest_voltage = thousandths (pos 3290); lowest_cell = 9 }))
 unfolding frame summed sum total
 read-range back = (back.cell-voltage-range-counts 2 range, back.cell-voltage-range 2 range)
 
@@ -84,7 +75,7 @@ frame92 = 0xA5 ∷ 0x40 ∷ 0x92 ∷ 0x08 ∷ 0xA8 ∷ 0x03 ∷ 0xA7 ∷ 0x05 �
 abbrev temperatures : TemperatureRange
 temperatures = record { highest_temperature = negsuc 127; highest_sensor = 3; lowest_temperature = pos 127; lowest_sensor = 5 }
 
-read_temperatures : ReadBack → decoded_temperature_range frame92 ≡ TemperatureRangeGiven temperatures
+read_temperatures : ReadBack → decoded_temperature_range frame92 ≡ Ok temperatures
 unfolding frame summed sum total
 read_temperatures back = back.temperature-range 0x40 temperatures (omega arith) (omega arith)
 
@@ -95,16 +86,16 @@ abbrev mosfets : MosfetStatusWire
 mosfets = record { mode = 2; charging_mosfet = true; discharging_mosfet = false; bms_cycles = 7; capacity_ah = 70000 }
 
 read_mosfets : ReadBack
-    → (decoded_mosfet_status_counts frame93 ≡ MosfetStatusCountsGiven (record { mode = Discharging; charging_mosfet = true; discharging_mosfet = false; bms_cycles = 7; capacity_ah = 70000 }))
+    → (decoded_mosfet_status_counts frame93 ≡ Ok (record { mode = Discharging; charging_mosfet = true; discharging_mosfet = false; bms_cycles = 7; capacity_ah = 70000 }))
     × (decoded_mosfet_status frame93
-    ≡ MosfetStatusGiven (record { mode = Discharging; charging_mosfet = true; discharging_mosfet = false; bms_cycles = 7; capacity_ah = thousandths (pos 70000) }))
+    ≡ Ok (record { mode = Discharging; charging_mosfet = true; discharging_mosfet = false; bms_cycles = 7; capacity_ah = thousandths (pos 70000) }))
 unfolding frame summed sum total
 read_mosfets back = (back.mosfet-status-counts 1 mosfets (omega arith), back.mosfet-status 1 mosfets (omega arith))
 
 -- a mode up to 2, and no other
 read_modes : ReadBack → (address : ℕ) (k : MosfetStatusWire) → k.mode ≤ 2
-    → (decoded_mosfet_status_counts (mosfet_status_reply address k) ≡ MosfetStatusCountsGiven (mosfet_status_meant k))
-    × (decoded_mosfet_status (mosfet_status_reply address k) ≡ MosfetStatusGiven (mosfet_status_of (mosfet_status_meant k)))
+    → (decoded_mosfet_status_counts (mosfet_status_reply address k) ≡ Ok (mosfet_status_meant k))
+    × (decoded_mosfet_status (mosfet_status_reply address k) ≡ Ok (mosfet_status_of (mosfet_status_meant k)))
 read_modes back address k h = (back.mosfet-status-counts address k h, back.mosfet-status address k h)
 
 abbrev frame94 : List ℕ
@@ -121,15 +112,15 @@ status =
       cycles = 300;
     }
 
-read-status : ReadBack → decoded_status frame94 ≡ StatusGiven status
+read-status : ReadBack → decoded_status frame94 ≡ Ok status
 unfolding frame summed sum total
 read-status back = back.status 1 status
 
 -- D9, DA, 21
 read-acknowledged : ReadBack
-    → (frame_check 0xD9 (0xA5 ∷ 0x01 ∷ 0xD9 ∷ 0x08 ∷ 0x00 ∷ 0x00 ∷ 0x00 ∷ 0x00 ∷ 0x00 ∷ 0x00 ∷ 0x00 ∷ 0x00 ∷ 0x87 ∷ []) ≡ Sound)
-    × (frame_check 0xDA (0xA5 ∷ 0x01 ∷ 0xDA ∷ 0x08 ∷ 0x00 ∷ 0x00 ∷ 0x00 ∷ 0x00 ∷ 0x00 ∷ 0x00 ∷ 0x00 ∷ 0x00 ∷ 0x88 ∷ []) ≡ Sound)
-    × (frame_check 0x21 (0xA5 ∷ 0x01 ∷ 0x21 ∷ 0x08 ∷ 0x00 ∷ 0x00 ∷ 0x00 ∷ 0x00 ∷ 0x00 ∷ 0x00 ∷ 0x00 ∷ 0x00 ∷ 0xCF ∷ []) ≡ Sound)
+    → (frame_check 0xD9 (0xA5 ∷ 0x01 ∷ 0xD9 ∷ 0x08 ∷ 0x00 ∷ 0x00 ∷ 0x00 ∷ 0x00 ∷ 0x00 ∷ 0x00 ∷ 0x00 ∷ 0x00 ∷ 0x87 ∷ []) ≡ sound)
+    × (frame_check 0xDA (0xA5 ∷ 0x01 ∷ 0xDA ∷ 0x08 ∷ 0x00 ∷ 0x00 ∷ 0x00 ∷ 0x00 ∷ 0x00 ∷ 0x00 ∷ 0x00 ∷ 0x00 ∷ 0x88 ∷ []) ≡ sound)
+    × (frame_check 0x21 (0xA5 ∷ 0x01 ∷ 0x21 ∷ 0x08 ∷ 0x00 ∷ 0x00 ∷ 0x00 ∷ 0x00 ∷ 0x00 ∷ 0x00 ∷ 0x00 ∷ 0x00 ∷ 0xCF ∷ []) ≡ sound)
 unfolding frame summed sum total
 read-acknowledged back = (back.acknowledged 1 0xD9, back.acknowledged 1 0xDA, back.acknowledged 1 0x21)
 
@@ -140,31 +131,31 @@ reply95 =
     0xA5 ∷ 0x01 ∷ 0x95 ∷ 0x08 ∷ 0x01 ∷ 0x0C ∷ 0xE5 ∷ 0x0C ∷ 0xE6 ∷ 0x0C ∷ 0xE7 ∷ 0x00 ∷ 0x1A
     ∷ 0xA5 ∷ 0x01 ∷ 0x95 ∷ 0x08 ∷ 0x02 ∷ 0x0C ∷ 0xE8 ∷ 0x00 ∷ 0x00 ∷ 0x00 ∷ 0x00 ∷ 0x00 ∷ 0x39 ∷ []
 
-read-four-cells : ReadBack → (r : Listed) (exit : List ℕ) → DecodesMillivolts reply95 4 (1 ∷ 2 ∷ 3 ∷ 4 ∷ 5 ∷ []) r exit
-    → (r ≡ Stored 4) × (exit ≡ 3301 ∷ 3302 ∷ 3303 ∷ 3304 ∷ 5 ∷ [])
+read-four-cells : ReadBack → (r : Result ℕ Refusal) (exit : List ℕ) → DecodesMillivolts reply95 4 (1 ∷ 2 ∷ 3 ∷ 4 ∷ 5 ∷ []) r exit
+    → (r ≡ Ok 4) × (exit ≡ 3301 ∷ 3302 ∷ 3303 ∷ 3304 ∷ 5 ∷ [])
 unfolding numbered_reply numbered_frame joined frame summed sum total
 read-four-cells back r exit d =
     let e = back.cells 1 (3301 ∷ 3302 ∷ 3303 ∷ 3304 ∷ []) (1 ∷ 2 ∷ 3 ∷ 4 ∷ 5 ∷ []) (omega arith) r exit d in
     (e.answer, e.left)
 
-read-cells : ReadBack → (address : ℕ) (cells out : List ℕ) → length cells ≤ length out → (r : Listed) (exit : List ℕ)
-    → DecodesMillivolts (cells_reply address cells) (length cells) out r exit → (r ≡ Stored (length cells)) × (exit ≡ cells ++ drop (length cells) out)
+read-cells : ReadBack → (address : ℕ) (cells out : List ℕ) → length cells ≤ length out → (r : Result ℕ Refusal) (exit : List ℕ)
+    → DecodesMillivolts (cells_reply address cells) (length cells) out r exit → (r ≡ Ok (length cells)) × (exit ≡ cells ++ drop (length cells) out)
 read-cells back address cells out h r exit d = let e = back.cells address cells out h r exit d in (e.answer, e.left)
 
-read-volts : ReadBack → (address : ℕ) (a b : ℕ) (x y : Float) (out : List Float) → length (a ∷ b ∷ []) ≤ length (x ∷ y ∷ out) → (r : Listed) (exit : List Float)
-    → DecodesVoltages (cells_reply address (a ∷ b ∷ [])) 2 (x ∷ y ∷ out) r exit → (r ≡ Stored 2) × (exit ≡ thousandths (pos a) ∷ thousandths (pos b) ∷ out)
+read-volts : ReadBack → (address : ℕ) (a b : ℕ) (x y : Float) (out : List Float) → length (a ∷ b ∷ []) ≤ length (x ∷ y ∷ out) → (r : Result ℕ Refusal) (exit : List Float)
+    → DecodesVoltages (cells_reply address (a ∷ b ∷ [])) 2 (x ∷ y ∷ out) r exit → (r ≡ Ok 2) × (exit ≡ thousandths (pos a) ∷ thousandths (pos b) ∷ out)
 read-volts back address a b x y out h r exit d = let e = back.volts address (a ∷ b ∷ []) (x ∷ y ∷ out) h r exit d in (e.answer, e.left)
 
-read-sensors : ReadBack → (address : ℕ) (degrees out : List ℤ) → all_fit degrees ≡ true → length degrees ≤ length out → (r : Listed) (exit : List ℤ)
-    → DecodesTemperatures (sensors_reply address degrees) (length degrees) out r exit → (r ≡ Stored (length degrees)) × (exit ≡ degrees ++ drop (length degrees) out)
+read-sensors : ReadBack → (address : ℕ) (degrees out : List ℤ) → all_fit degrees ≡ true → length degrees ≤ length out → (r : Result ℕ Refusal) (exit : List ℤ)
+    → DecodesTemperatures (sensors_reply address degrees) (length degrees) out r exit → (r ≡ Ok (length degrees)) × (exit ≡ degrees ++ drop (length degrees) out)
 read-sensors back address degrees out f h r exit d = let e = back.sensors address degrees out f h r exit d in (e.answer, e.left)
 
-read-balance : ReadBack → (address : ℕ) (flags out : List Bool) → 1 ≤ length flags → length flags ≤ 48 → length flags ≤ length out → (r : Listed) (exit : List Bool)
-    → DecodesBalance (balance_reply address flags) (length flags) out r exit → (r ≡ Stored (length flags)) × (exit ≡ flags ++ drop (length flags) out)
+read-balance : ReadBack → (address : ℕ) (flags out : List Bool) → 1 ≤ length flags → length flags ≤ 48 → length flags ≤ length out → (r : Result ℕ Refusal) (exit : List Bool)
+    → DecodesBalance (balance_reply address flags) (length flags) out r exit → (r ≡ Ok (length flags)) × (exit ≡ flags ++ drop (length flags) out)
 read-balance back address flags out a b h r exit d = let e = back.balance address flags out a b h r exit d in (e.answer, e.left)
 
-read-faults : ReadBack → (address : ℕ) (flags : List Bool) (out : List ℕ) → 48 ≤ length out → (r : Listed) (exit : List ℕ)
-    → DecodesFaults (faults_reply address flags) out r exit → (r ≡ Stored (length (set_faults flags))) × (exit ≡ set_faults flags ++ drop (length (set_faults flags)) out)
+read-faults : ReadBack → (address : ℕ) (flags : List Bool) (out : List ℕ) → 48 ≤ length out → (r : Result ℕ Refusal) (exit : List ℕ)
+    → DecodesFaults (faults_reply address flags) out r exit → (r ≡ Ok (length (set_faults flags))) × (exit ≡ set_faults flags ++ drop (length (set_faults flags)) out)
 read-faults back address flags out h r exit d = let e = back.faults address flags out h r exit d in (e.answer, e.left)
 
 -- ---- the reader

@@ -2,9 +2,10 @@
 use mathlib.Core.Path.{◌≡◌}
 use mathlib.Core.List.{List}
 use lib.ListN.{length}
-use Rattle.frame.specs.declared.Check.{Check}
-use Rattle.frame.specs.declared.Check.TheVariants.{Sound}
-use Rattle.list.specs.declared.Listed.{Listed}
+use Rattle.std.specs.Prelude.{ℕ, Result}
+use Rattle.frame.specs.Refusals.{Check}
+use Rattle.frame.specs.Refusals.{sound}
+use Rattle.frame.specs.declared.refusal.Refusal.{Refusal}
 use Rattle.list.specs.Listed.{Stores}
 use Rattle.writing_flags.proofs.BalanceBack.{balance_sound, balance_back}
 use Rattle.writing_flags.proofs.FaultsBack.{faults_sound, faults_back}
@@ -14,7 +15,7 @@ use Rattle.readback.specs.ReadBack.{ReadBack}
 use Rattle.readback.proofs.OneFrame.{soc-counts_back, soc_back, range-counts_back, range_back, temperatures_back, mosfet-counts_back, mosfet_back, status_back, acknowledged}
 
 -- a decoder whose check finds nothing has stored its values, and they are what was meant
-stored : {A : Type 0} {check : Check} {values meant out exit : List A} {r : Listed} → check ≡ Sound → values ≡ meant → Stores check values out r exit → Stores Sound meant out r exit
+stored : {A : Type 0} {check : Check} {values meant out exit : List A} {r : Result ℕ Refusal} → check ≡ sound → values ≡ meant → Stores check values out r exit → Stores sound meant out r exit
 stored p q d = rw (p, q) at d
 
 pub read_back : ReadBack

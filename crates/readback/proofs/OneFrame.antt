@@ -6,29 +6,21 @@ use Prim.Native.Nat.{ℕ, suc, ◌-◌, ◌+◌, ◌%◌, ◌≤◌}
 use native.Mathlib.Omega.{arith}
 use lib.IntN.{ℤ, pos, negsuc}
 use borrow.Author.Tests.{le-ltb, lt-ltb}
+use Rattle.std.specs.Prelude.{Ok}
 use Rattle.wire.specs.Bytes.{four_bytes, high_half, low_half, flag_byte}
 use Rattle.wire.proofs.Packing.{bit_back}
-use Rattle.frame.specs.declared.Check.TheVariants.{Sound}
+use Rattle.frame.specs.Refusals.{sound}
 use Rattle.frame.specs.Frame.{summed, frame}
 use Rattle.frame.specs.Checks.{frame_check}
 use Rattle.frame.specs.Reply.{flag}
 use Rattle.frame.proofs.Sound.{frame_sound}
-use Rattle.soc.specs.declared.SocCountsAnswer.TheVariants.{SocCountsGiven}
-use Rattle.soc.specs.declared.SocAnswer.TheVariants.{SocGiven}
 use Rattle.soc.specs.Soc.{soc_counts, soc_of, decoded_soc_counts, soc_answer, decoded_soc}
-use Rattle.cell_voltage_range.specs.declared.CellVoltageRangeCounts.{CellVoltageRangeCounts}
-use Rattle.cell_voltage_range.specs.declared.CellVoltageRangeCountsAnswer.TheVariants.{CellVoltageRangeCountsGiven}
-use Rattle.cell_voltage_range.specs.declared.CellVoltageRangeAnswer.TheVariants.{CellVoltageRangeGiven}
-use Rattle.cell_voltage_range.specs.CellVoltageRange.{cell_voltage_range_counts, cell_voltage_range_of, decoded_cell_voltage_range_counts, cell_voltage_range_answer, decoded_cell_voltage_range}
+use Rattle.cell_voltage_range.specs.CellVoltageRange.{CellVoltageRangeCounts, cell_voltage_range_counts, cell_voltage_range_of, decoded_cell_voltage_range_counts, cell_voltage_range_answer, decoded_cell_voltage_range}
 use Rattle.temperature_range.specs.declared.TemperatureRange.{TemperatureRange}
-use Rattle.temperature_range.specs.declared.TemperatureRangeAnswer.TheVariants.{TemperatureRangeGiven}
 use Rattle.temperature_range.specs.TemperatureRange.{less40, temperature_of, temperature_range, decoded_temperature_range}
-use Rattle.mosfet_status.specs.declared.MosfetStatusCountsAnswer.TheVariants.{MosfetStatusCountsGiven}
-use Rattle.mosfet_status.specs.declared.MosfetStatusAnswer.TheVariants.{MosfetStatusGiven}
 use Rattle.mosfet_status.specs.MosfetStatus.{mosfet_check, mosfet_status_counts, mosfet_status_of, decoded_mosfet_status_counts, mosfet_status_answer, decoded_mosfet_status}
 use Rattle.status.specs.declared.IOState.{IOState}
 use Rattle.status.specs.declared.Status.{Status}
-use Rattle.status.specs.declared.StatusAnswer.TheVariants.{StatusGiven}
 use Rattle.status.specs.Status.{io_state, status_of, decoded_status}
 use Rattle.writing.specs.declared.SocWire.{SocWire}
 use Rattle.writing.specs.declared.MosfetStatusWire.{MosfetStatusWire}
@@ -51,10 +43,10 @@ module _ (address : ℕ) where
   unfolding frame summed
   soc-fields k = rw (rejoined k.total_voltage, rejoined k.current, rejoined k.soc_percent)
 
-  pub soc-counts_back : (k : SocWire) → decoded_soc_counts (soc_reply address k) ≡ SocCountsGiven (soc_meant k)
-  soc-counts_back k = rw (frame_sound address 0x90 _ refl) (ap SocCountsGiven (soc-fields k))
+  pub soc-counts_back : (k : SocWire) → decoded_soc_counts (soc_reply address k) ≡ Ok (soc_meant k)
+  soc-counts_back k = rw (frame_sound address 0x90 _ refl) (ap Ok (soc-fields k))
 
-  pub soc_back : (k : SocWire) → decoded_soc (soc_reply address k) ≡ SocGiven (soc_of (soc_meant k))
+  pub soc_back : (k : SocWire) → decoded_soc (soc_reply address k) ≡ Ok (soc_of (soc_meant k))
   soc_back k = ap soc_answer (soc-counts_back k)
 
   -- ---- 91
@@ -63,10 +55,10 @@ module _ (address : ℕ) where
   unfolding frame summed
   range-fields k = rw (rejoined k.highest_voltage, rejoined k.lowest_voltage)
 
-  pub range-counts_back : (k : CellVoltageRangeCounts) → decoded_cell_voltage_range_counts (cell_voltage_range_reply address k) ≡ CellVoltageRangeCountsGiven k
-  range-counts_back k = rw (frame_sound address 0x91 _ refl) (ap CellVoltageRangeCountsGiven (range-fields k))
+  pub range-counts_back : (k : CellVoltageRangeCounts) → decoded_cell_voltage_range_counts (cell_voltage_range_reply address k) ≡ Ok k
+  range-counts_back k = rw (frame_sound address 0x91 _ refl) (ap Ok (range-fields k))
 
-  pub range_back : (k : CellVoltageRangeCounts) → decoded_cell_voltage_range (cell_voltage_range_reply address k) ≡ CellVoltageRangeGiven (cell_voltage_range_of k)
+  pub range_back : (k : CellVoltageRangeCounts) → decoded_cell_voltage_range (cell_voltage_range_reply address k) ≡ Ok (cell_voltage_range_of k)
   range_back k = ap cell_voltage_range_answer (range-counts_back k)
 
   -- ---- 92
@@ -85,12 +77,12 @@ module _ (address : ℕ) where
   degrees-fields k h l = rw (degrees_back k.highest_temperature h, degrees_back k.lowest_temperature l)
 
   pub temperatures_back : (k : TemperatureRange) → IsI8 k.highest_temperature → IsI8 k.lowest_temperature
-      → decoded_temperature_range (temperature_range_reply address k) ≡ TemperatureRangeGiven k
-  temperatures_back k h l = rw (frame_sound address 0x92 _ refl) (ap TemperatureRangeGiven (degrees-fields k h l))
+      → decoded_temperature_range (temperature_range_reply address k) ≡ Ok k
+  temperatures_back k h l = rw (frame_sound address 0x92 _ refl) (ap Ok (degrees-fields k h l))
 
   -- ---- 93
 
-  mosfet_sound : (k : MosfetStatusWire) → k.mode ≤ 2 → mosfet_check (mosfet_status_reply address k) ≡ Sound
+  mosfet_sound : (k : MosfetStatusWire) → k.mode ≤ 2 → mosfet_check (mosfet_status_reply address k) ≡ sound
   unfolding mosfet_check frame summed
   mosfet_sound k h = rw (frame_sound address 0x93 _ refl, le-ltb 2 k.mode h)
 
@@ -99,10 +91,10 @@ module _ (address : ℕ) where
   mosfet-fields k =
       rw (flag_back k.charging_mosfet, flag_back k.discharging_mosfet, rejoined (high_half k.capacity_ah), rejoined (low_half k.capacity_ah), four_back k.capacity_ah)
 
-  pub mosfet-counts_back : (k : MosfetStatusWire) → k.mode ≤ 2 → decoded_mosfet_status_counts (mosfet_status_reply address k) ≡ MosfetStatusCountsGiven (mosfet_status_meant k)
-  mosfet-counts_back k h = rw (mosfet_sound k h) (ap MosfetStatusCountsGiven (mosfet-fields k))
+  pub mosfet-counts_back : (k : MosfetStatusWire) → k.mode ≤ 2 → decoded_mosfet_status_counts (mosfet_status_reply address k) ≡ Ok (mosfet_status_meant k)
+  mosfet-counts_back k h = rw (mosfet_sound k h) (ap Ok (mosfet-fields k))
 
-  pub mosfet_back : (k : MosfetStatusWire) → k.mode ≤ 2 → decoded_mosfet_status (mosfet_status_reply address k) ≡ MosfetStatusGiven (mosfet_status_of (mosfet_status_meant k))
+  pub mosfet_back : (k : MosfetStatusWire) → k.mode ≤ 2 → decoded_mosfet_status (mosfet_status_reply address k) ≡ Ok (mosfet_status_of (mosfet_status_meant k))
   mosfet_back k h = ap mosfet_status_answer (mosfet-counts_back k h)
 
   -- ---- 94
@@ -125,10 +117,10 @@ module _ (address : ℕ) where
   unfolding frame summed
   status-fields k = rw (flag_back k.charger_running, flag_back k.load_running, states_back k.states, rejoined k.cycles)
 
-  pub status_back : (k : Status) → decoded_status (status_reply address k) ≡ StatusGiven k
-  status_back k = rw (frame_sound address 0x94 _ refl) (ap StatusGiven (status-fields k))
+  pub status_back : (k : Status) → decoded_status (status_reply address k) ≡ Ok k
+  status_back k = rw (frame_sound address 0x94 _ refl) (ap Ok (status-fields k))
 
   -- ---- acknowledgements
 
-  pub acknowledged : (command : ℕ) → frame_check command (acknowledgement address command) ≡ Sound
+  pub acknowledged : (command : ℕ) → frame_check command (acknowledgement address command) ≡ sound
   acknowledged command = frame_sound address command _ refl

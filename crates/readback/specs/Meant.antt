@@ -1,9 +1,8 @@
 -- Document 02, K2: what a written reply means, where the decoder's record is not what the writer was given. Definitions only.
 use Rattle.std.specs.Prelude.{ℕ, ◌≤◌, List, map, ℤ, pos, negsuc, Float}
 use Rattle.units.specs.Floats.{thousandths, current_count}
-use Rattle.soc.specs.declared.SocCounts.{SocCounts}
-use Rattle.mosfet_status.specs.declared.MosfetStatusCounts.{MosfetStatusCounts}
-use Rattle.mosfet_status.specs.MosfetStatus.{mode_of}
+use Rattle.soc.specs.Soc.{SocCounts}
+use Rattle.mosfet_status.specs.MosfetStatus.{MosfetStatusCounts, mode_of}
 use Rattle.writing.specs.declared.SocWire.{SocWire}
 use Rattle.writing.specs.declared.MosfetStatusWire.{MosfetStatusWire}
 

@@ -3,9 +3,9 @@ use Rattle.std.proofs.Common.{◌≡◌, ℕ, List, ap}
 use Rattle.wire.proofs.Decides.{both}
 use Rattle.reader.specs.Lent.{AnsweredLent, TurnedLent, PushesAgree}
 use Rattle.reader.specs.declared.FrameReader.{FrameReader}
-use Rattle.reader.specs.declared.Said.{Said}
-use Rattle.reader.specs.declared.Turn.{Turn}
-use Rattle.reader.specs.declared.Told.{Told}
+use Rattle.reader.specs.declared.pushing.Said.{Said}
+use Rattle.reader.specs.declared.pushing.Turn.{Turn}
+use Rattle.reader.specs.declared.pushing.Told.{Told}
 use Rattle.reader.proofs.Promise.{shown, told_once, answered-refused}
 use Rattle.reader.proofs.Turning.{turned_into_once}
 

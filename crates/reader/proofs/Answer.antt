@@ -71,8 +71,9 @@ module _ (f : List ℕ) (c : Counts) (s f' u : List ℕ) (m : Moved) (mark : Boo
       let small : (i : ℕ) → get_or u i 0 < 4294967296 = v.tally.small below in
       let g : Config = config c.command c.wanted c.strict in
       let r : Outcome = run g (chop c.collected f) (front c.held (drop (13 * c.collected) f) ++ s) in
+      let tk : m.took ≡ took g r s = omega (arith, v.took) in
       let to : get_or (set u 0 taken) 0 0 ≡ wrap (get_or c.tally 0 0 + took g r s) =
-      get_or-set_same u 0 taken 0 (omega (arith, n)) ∙ t ∙ (let q : m.took ≡ took g r s = v.took in omega (arith, q, v.tally.taken)) in
+      get_or-set_same u 0 taken 0 (omega (arith, n)) ∙ t ∙ omega (arith, tk, v.tally.taken) in
       let one : (y : Why) → get_or (set u 0 taken) (seat y) 0 ≡ wrap (get_or c.tally (seat y) 0 + discards_for y r.ledger) =
       λ y. get_or-set_other u 0 (seat y) taken 0 (λ z. omega arith) ∙ omega (arith, small (seat y), v.tally.lost y) in
       let cl : get_or (set u 0 taken) 6 0 ≡ wrap (get_or c.tally 6 0 + clears r.ledger) =
@@ -81,7 +82,7 @@ module _ (f : List ℕ) (c : Counts) (s f' u : List ℕ) (m : Moved) (mark : Boo
       let rd : view After f' ≡ push (view c f) s =
       λ i. record { config = g; collected = sym v.collected i; held = sym v.held i; taken = to i; discarded = each (λ y. one y i); cleared = cl i; mark = ov i } in
       record {
-        by-rule = rw e (λ i. record { reader = rd i; status = (k ∙ ap (λ (y : Bool). if y then 2 else 0) ov) i; took = v.took i });
+        by-rule = rw e (λ i. record { reader = rd i; status = (k ∙ ap (λ (y : Bool). if y then 2 else 0) ov) i; took = tk i });
         seven = length-set u 0 taken ∙ v.tally.long;
         as-given = λ z. absurd (true≢false (sym z ∙ e));
       }

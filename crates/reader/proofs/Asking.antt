@@ -1,40 +1,42 @@
 -- What a new reader, `missing`, completeness and copying out answer, from what the code tests. Assumes nothing.
 use Rattle.std.proofs.Common.{◌≡◌, ℕ, ◌-◌, ◌*◌, ◌<◌, ◌≤◌, false, leb, List, ◌++◌, take, drop, ap, ◌∙◌, zero-add, le-ltb, lt-ltb}
 use lib.Seq.{paste}
-use Rattle.frame.specs.declared.Refusal.TheVariants.{BadState, NoRoom}
-use Rattle.frame.specs.declared.Check.TheVariants.{Sound, Refused}
-use Rattle.rules.specs.Reader.{complete, bad, missing, completeness, state_number, joined, copy_check}
+use Rattle.std.specs.Prelude.{Ok, Err, ⊤}
+use Rattle.frame.specs.declared.refusal.Refusal.{Refusal}
+use Rattle.frame.specs.declared.refusal.Refusal.TheVariants.{NoRoom}
+use Rattle.frame.specs.Refusals.{Check, sound, refusal_number}
+use Rattle.rules.specs.Reader.{complete, bad, missing, completeness, state_check, joined, copy_check}
 use Rattle.reader.specs.View.{config, view, counted, standing_of}
 use Rattle.reader.specs.Told.{missing_told, complete_told}
 use Rattle.reader.specs.declared.Counts.{Counts}
 use Rattle.reader.specs.declared.Standing.{Standing}
-use Rattle.reader.specs.declared.Missing.{Missing}
-use Rattle.reader.specs.declared.Completed.{Completed}
+use Rattle.reader.specs.declared.queries.Missing.{Missing}
+use Rattle.reader.specs.declared.queries.Completed.{Completed}
 use Rattle.reader.proofs.Parts.{length-chop, length_front, joined-chop}
 use Rattle.reader.proofs.Turns.{is_open, is_complete}
 use Rattle.reader.proofs.Refusing.{sane, is-refused, not-refused}
 
--- the number of a state whose tally is lent beside the others is that of the whole
-pub of_whole : (c : Counts) (f : List ℕ) (n : ℕ) (s : Standing) → s ≡ standing_of c → n ≡ state_number (view (counted s c.tally) f) → n ≡ state_number (view c f)
-of_whole c f n s e q = q ∙ ap (λ (x : Standing). state_number (view (counted x c.tally) f)) e
+-- the check of a state whose tally is lent beside the others is that of the whole
+pub of_whole : (c : Counts) (f : List ℕ) (r : Check) (s : Standing) → s ≡ standing_of c → r ≡ state_check (view (counted s c.tally) f) → r ≡ state_check (view c f)
+of_whole c f r s e q = q ∙ ap (λ (x : Standing). state_check (view (counted x c.tally) f)) e
 
--- n is the state's number, as the code has it
-module _ (c : Counts) (f : List ℕ) (n : ℕ) (e : n ≡ state_number (view c f)) where
-  module _ (z : n ≡ 0 → ⊥) where
-    pub missing-bad : ◌≡◌ {A = Missing} (record { number = n; missing = 0 }) (missing_told (view c f))
+module _ (c : Counts) (f : List ℕ) where
+  -- the state is refused
+  module _ (r : Refusal) (e : Err r ≡ state_check (view c f)) where
+    pub missing-bad : ◌≡◌ {A = Missing} (record { number = refusal_number r; missing = 0 }) (missing_told (view c f))
     unfolding missing
-    missing-bad = let m : 0 ≡ missing (view c f) = rw (is-refused c f n e z) in λ i. record { number = e i; missing = m i }
+    missing-bad = let h = is-refused c f r e in rw (h.0, h.1)
 
-    pub complete-bad : ◌≡◌ {A = Completed} (record { number = n; complete = false }) (complete_told (view c f))
+    pub complete-bad : ◌≡◌ {A = Completed} (record { number = refusal_number r; complete = false }) (complete_told (view c f))
     unfolding completeness
-    complete-bad = let m : false ≡ completeness (view c f) = rw (is-refused c f n e z) in λ i. record { number = e i; complete = m i }
+    complete-bad = let h = is-refused c f r e in rw (h.0, h.1)
 
-    pub copy-bad : (room : ℕ) → copy_check (view c f) room ≡ Refused BadState
-    copy-bad room = rw (is-refused c f n e z)
+    pub copy-bad : (room : ℕ) → copy_check (view c f) room ≡ Err r
+    copy-bad room = let h = is-refused c f r e in rw (h.0, h.1)
 
-  module _ (z : n ≡ 0) where
+  module _ (x : ⊤) (e : Ok x ≡ state_check (view c f)) where
     good : bad (view c f) ≡ false
-    good = not-refused c f n e z
+    good = not-refused c f x e
 
     -- what the code may then count on
     pub fits : (c.held ≤ 12) × (c.wanted ≤ 85) × (c.collected ≤ c.wanted)
@@ -52,11 +54,11 @@ module _ (c : Counts) (f : List ℕ) (n : ℕ) (e : n ≡ state_number (view c f
     unfolding completeness complete view
     complete-is = rw (good, length-chop)
 
-    pub copy-room : (room : ℕ) → room < 13 * c.collected → copy_check (view c f) room ≡ Refused NoRoom
+    pub copy-room : (room : ℕ) → room < 13 * c.collected → copy_check (view c f) room ≡ Err NoRoom
     unfolding view
     copy-room room h = rw (good, length-chop, lt-ltb room (13 * c.collected) h)
 
-    pub copy_sound : (room : ℕ) → 13 * c.collected ≤ room → copy_check (view c f) room ≡ Sound
+    pub copy_sound : (room : ℕ) → 13 * c.collected ≤ room → copy_check (view c f) room ≡ sound
     unfolding view
     copy_sound room h = rw (good, length-chop, le-ltb room (13 * c.collected) h)
 

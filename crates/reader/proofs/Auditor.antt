@@ -8,9 +8,9 @@ use Rattle.reader.specs.Cuts.{CodeCutsDontMatter}
 use Rattle.reader.specs.Lent.{OpenedLent, TurnedLent, PushesAgree}
 use Rattle.reader.specs.declared.Counts.{Counts}
 use Rattle.reader.specs.declared.FrameReader.{FrameReader}
-use Rattle.reader.specs.declared.Opened.{Opened}
-use Rattle.reader.specs.declared.Said.{Said}
-use Rattle.reader.specs.declared.Turn.{Turn}
+use Rattle.reader.specs.declared.fresh.Opened.{Opened}
+use Rattle.reader.specs.declared.pushing.Said.{Said}
+use Rattle.reader.specs.declared.pushing.Turn.{Turn}
 
 -- two pushes by their contract into a new reader of up to 85 frames, in either mode, leave what one push of both chunks leaves
 pub in_two : CodeCutsDontMatter → (command wanted : ℕ) (strict : Bool) → wanted ≤ 85

@@ -6,17 +6,20 @@ use Rattle.list.proofs.Decoding.{pinned}
 use Rattle.reader.proofs.Promise.{told, shown, told_once, pushed_once}
 use Rattle.reader.proofs.Turning.{turned_into_once}
 use Rattle.reader.specs.View.{counted}
-use Rattle.reader.specs.declared.Went.{Went}
-use Rattle.reader.specs.declared.Told.{Told}
-use Rattle.reader.proofs.push_into.Reads as push_into
-use Rattle.reader.proofs.push_counts.Reads as push_counts
-use Rattle.reader.proofs.turn_into.Reads as turn_into
+use Rattle.reader.specs.declared.pushing.Went.{Went}
+use Rattle.reader.specs.declared.pushing.Told.{Told}
+use Rattle.reader.proofs.pushing.push_into.Reads as push_into
+use Rattle.reader.proofs.pushing.push_counts.Reads as push_counts
+use Rattle.reader.proofs.pushing.turn_into.Reads as turn_into
 use Rattle.reader.proofs.tally.discarded_in.Reads as discarded-in
 use Rattle.reader.proofs.tally.Discarded.all.Reads as Discarded-all
-use Rattle.reader.proofs.missing_of.Reads as missing_of
-use Rattle.reader.proofs.completed_of.Reads as completed_of
-use Rattle.reader.proofs.copy_from.Reads as copy_from
-use Rattle.reader.proofs.open_counts.Reads as open_counts
+use Rattle.reader.proofs.queries.missing_of.Reads as missing_of
+use Rattle.reader.proofs.queries.completed_of.Reads as completed_of
+use Rattle.reader.proofs.queries.copy_from.Reads as copy_from
+use Rattle.reader.proofs.fresh.open_counts.Reads as open_counts
+use Rattle.reader.proofs.fresh.fresh_counts.Reads as fresh_counts
+use Rattle.reader.proofs.StandingFromCounts.from.Reads as Standing-from
+use Rattle.reader.proofs.Standing.counted.Reads as Standing-counted
 use Rattle.reader.proofs.FrameReader.new.Reads as FrameReader-new
 use Rattle.reader.proofs.FrameReader.push.Reads as FrameReader-push
 use Rattle.reader.proofs.FrameReader.missing.Reads as FrameReader-missing
@@ -50,6 +53,15 @@ completed_of-decides κs a x y s t = same
 
 copy_from-decides : Decides copy_from.Post (λ κs r s. both r s.1.1.0.now)
 copy_from-decides κs a x y s t = pinned
+
+fresh_counts-decides : Decides fresh_counts.Post (λ κs r s. r)
+fresh_counts-decides κs a x y s t = same
+
+Standing-from-decides : Decides Standing-from.Post (λ κs r s. r)
+Standing-from-decides κs a x y s t = same
+
+Standing-counted-decides : Decides Standing-counted.Post (λ κs r s. r)
+Standing-counted-decides κs a x y s t = same
 
 open_counts-decides : Decides open_counts.Post (λ κs r s. r)
 open_counts-decides κs a x y s t = same

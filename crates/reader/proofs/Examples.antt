@@ -1,13 +1,16 @@
 -- Worked answers of a new reader, its array among them, and of what a bad one is told. Assumes nothing.
 use Rattle.std.proofs.Common.{◌≡◌, ℕ, true, false, List, [], ◌∷◌, ◌++◌, length, replicate, refl, ap}
+use Rattle.std.specs.Prelude.{Ok, Err}
 use Rattle.frame.specs.Frame.{total, sum}
-use Rattle.rules.specs.Rules.{noise, wrong_sum, wrong_command, wrong_number, echo, discarded as thrown, collected, sum_right, restarts, judge, look, stay, after, drops}
+use Rattle.rules.specs.Rules.{wrong_number, discarded as thrown, collected, sum_right, restarts, judge, look, stay, after, drops}
 use Rattle.rules.specs.Ledger.{turns, run, total as total_of, lost_for}
 use Rattle.rules.specs.Reader.{Answer, bad, complete, held_of, untaken, did, booked, push, status, answer, missing, completeness}
 use Rattle.rules.proofs.Examples.{five, nothing, answered, c90, frame90}
 use Rattle.reader.specs.declared.Counts.{Counts}
 use Rattle.reader.specs.declared.Standing.{Standing}
-use Rattle.reader.specs.View.{seat_of, five_in, discarded_in, reasons, counted, standing_of, chop, front, view, Answered}
+use Rattle.reader.specs.declared.asked.Asked.{Asked}
+use Rattle.reader.specs.declared.tally.Why.TheVariants.{Noise, Sum, Command, Number, Echo}
+use Rattle.reader.specs.View.{config_of, reason, fate, seat, five_in, discarded_in, reasons, counted, standing_of, chop, front, view, Answered}
 use Rattle.reader.specs.Lent.{seen}
 use Rattle.reader.specs.Told.{fresh_counts, fresh_reader, opening_of, opened, missing_told, complete_told}
 
@@ -73,10 +76,17 @@ viewed = refl
 seen_lent : seen (record { counts = halfway; frames = replicate 13 1 ++ replicate 13 2 ++ (0xA5 ∷ 4 ∷ 5 ∷ 6 ∷ 7 ∷ []) }) ≡ view halfway (replicate 13 1 ++ replicate 13 2 ++ (0xA5 ∷ 4 ∷ 5 ∷ 6 ∷ 7 ∷ []))
 seen_lent = refl
 
--- the tally: where each reason counts, and a frame that is collected; what it has not is 0
-seats : (seat_of (thrown noise) ≡ 1) × (seat_of (thrown wrong_sum) ≡ 2) × (seat_of (thrown wrong_command) ≡ 3) × (seat_of (thrown wrong_number) ≡ 4) × (seat_of (thrown echo) ≡ 5)
-    × (seat_of collected ≡ 0)
-seats = (refl, refl, refl, refl, refl, refl)
+-- what a reader is asked for, each number in its place
+asked_for : (a : Asked) → config_of a ≡ record { command = a.command; wanted = a.wanted; strict = a.strict }
+asked_for a = refl
+
+-- the tally: where each reason counts; what it has not is 0
+seats : (seat (reason Noise) ≡ 1) × (seat (reason Sum) ≡ 2) × (seat (reason Command) ≡ 3) × (seat (reason Number) ≡ 4) × (seat (reason Echo) ≡ 5)
+seats = (refl, refl, refl, refl, refl)
+
+-- what becomes of bytes, as the code says it
+fates : (fate (Ok tt) ≡ collected) × (fate (Err Number) ≡ thrown wrong_number)
+fates = (refl, refl)
 
 none-counted : (five_in [] ≡ nothing) × ((view (counted halfway_standing []) []).taken ≡ 0) × ((view (counted halfway_standing []) []).cleared ≡ 0)
 unfolding view

@@ -1,6 +1,7 @@
 -- The reader's array: its frames, its held bytes, and what a copy into it leaves. Assumes nothing.
 use Rattle.std.proofs.Common.{◌≡◌, ℕ, zero, suc, ◌+◌, ◌-◌, ◌*◌, ◌<◌, ◌≤◌, Bool, true, false, ltb, List, [], ◌∷◌, ◌++◌, length, get_or, take, drop, sym, refl, ap, ◌∙◌, append_assoc, add-zero, suc-add, zero-add, add-one, arith, length-drop, length-take-le, get_or-drop, take_all, take-take, drop-drop, take_at, take-add, drop_at, ltb-false, ltb-true}
-use lib.Seq.{paste, length-paste, take-paste, take-nil, drop-nil, take-append-le}
+use Rattle.std.proofs.lemmas.List.{drop-take}
+use lib.Seq.{paste, length-paste, take-paste, take-append-le}
 use Rattle.rules.specs.Reader.{joined}
 use Rattle.reader.specs.View.{chop, front}
 
@@ -28,11 +29,6 @@ joined-chop (suc k) l =
     let n : 13 * suc k ≡ 13 + 13 * k = omega arith in
     rw (n, take-add 13 (13 * k) l, joined-chop k (drop 13 l))
 
-drop-take : (a n : ℕ) (l : List ℕ) → drop a (take (a + n) l) ≡ take n (drop a l)
-drop-take zero n l = rw zero-add
-drop-take (suc a) n [] = rw (take-nil, drop-nil, take-nil)
-drop-take (suc a) n (x ∷ xs) = rw suc-add (drop-take a n xs)
-
 -- only the first 13 * k bytes count: what stands behind them is not seen
 pub chop-same : (k : ℕ) (l m : List ℕ) → take (13 * k) l ≡ take (13 * k) m → chop k l ≡ chop k m
 unfolding chop
@@ -46,39 +42,32 @@ chop-same (suc k) l m e =
 
 -- ---- copies
 
--- 13 bytes by way of another array
-pub put_is : (w f s : List ℕ) (n a : ℕ) → a + 13 ≤ length s → paste f n (paste w 0 (drop a s) 13) 13 ≡ paste f n (drop a s) 13
-put_is w f s n a b = ap (λ (l : List ℕ). take n f ++ l ++ drop (n + 13) f) (take-paste w 0 (drop a s) 13 (omega arith) (omega (arith, length-drop a s)))
+-- a copy of the first n bytes of g
+pub paste_first : (f g : List ℕ) (at n : ℕ) → n ≤ length g → paste f at (take n g) (length (take n g)) ≡ paste f at g n
+paste_first f g at n b = rw (length-take-le n g b, take-take n n g (omega arith))
 
 -- the 13 bytes of s at `at`
 abbrev pub window : List ℕ → ℕ → List ℕ
 window s at = take 13 (drop at s)
 
--- the same, as a slice of the code has it
-abbrev pub cut : List ℕ → ℕ → List ℕ
-cut s at = take (at + 13 - at) (drop at s)
-
-pub cut_is : (s : List ℕ) (at : ℕ) → cut s at ≡ window s at
-cut_is s at = let e : at + 13 - at ≡ 13 = omega arith in rw e
-
-pub length_cut : (s : List ℕ) (at : ℕ) → at + 13 ≤ length s → length (cut s at) ≡ 13
-length_cut s at b = ap length (cut_is s at) ∙ length-take-le 13 (drop at s) (omega (arith, length-drop at s))
+pub length_window : (s : List ℕ) (at : ℕ) → at + 13 ≤ length s → length (window s at) ≡ 13
+length_window s at b = length-take-le 13 (drop at s) (omega (arith, length-drop at s))
 
 pub first_of : (s : List ℕ) (at : ℕ) → get_or (drop at s) 0 0 ≡ get_or s at 0
 first_of s at = get_or-drop at s 0 0 ∙ rw add-zero
 
 -- a frame that is copied in behind the first k is collected
-pub chop_copied : (f s : List ℕ) (k at : ℕ) → 13 * k + 13 ≤ length f → at + 13 ≤ length s → chop (k + 1) (paste f (13 * k) (drop at s) 13) ≡ chop k f ++ (window s at ∷ [])
-chop_copied f s k at b l =
+pub chop_copied : (f w : List ℕ) (k : ℕ) → 13 * k + 13 ≤ length f → length w ≡ 13 → chop (k + 1) (paste f (13 * k) w 13) ≡ chop k f ++ (w ∷ [])
+chop_copied f w k b lw =
     let n : ℕ = 13 * k in
-    let g : List ℕ = paste f n (drop at s) 13 in
+    let g : List ℕ = paste f n w 13 in
     let t : List ℕ = drop (n + 13) f in
-    let lw : length (window s at) ≡ 13 = length-take-le 13 (drop at s) (omega (arith, length-drop at s)) in
+    let all : take 13 w ≡ w = take_all 13 w (omega arith) in
     let ln : length (take n f) ≡ n = length-take-le n f (omega arith) in
-    let front : take n g ≡ take n f = rw append_assoc (take_at (take n f) (window s at ++ t) n ln) in
-    let back : drop n g ≡ window s at ++ t = rw append_assoc (drop_at (take n f) (window s at ++ t) n ln) in
-    let w : take 13 (drop n g) ≡ window s at = rw back (take_at (window s at) t 13 lw) in
-    rw add-one (chop_snoc k g ∙ rw (chop-same k g f front, w))
+    let front : take n g ≡ take n f = rw (append_assoc, all) (take_at (take n f) (w ++ t) n ln) in
+    let back : drop n g ≡ w ++ t = rw (append_assoc, all) (drop_at (take n f) (w ++ t) n ln) in
+    let v : take 13 (drop n g) ≡ w = rw back (take_at w t 13 lw) in
+    rw add-one (chop_snoc k g ∙ rw (chop-same k g f front, v))
 
 -- ---- what a copy behind place n leaves before n, and from n on
 
@@ -107,16 +96,6 @@ front-take (suc n) (x ∷ xs) h = ap (λ (r : List ℕ). x ∷ r) (front-take n 
 
 -- ---- copies, as `front` sees them
 
--- the rest of s is copied to the start of f
-pub front_rest : (f s : List ℕ) (at : ℕ) → at ≤ length s → length s ≤ at + length f → drop at s ≡ front (length s - at) (paste f 0 (drop at s) (length s - at))
-front_rest f s at b r =
-    let n : ℕ = length s - at in
-    let l : length (drop at s) ≡ n = length-drop at s in
-    let g : length (paste f 0 (drop at s) n) ≡ length f = length-paste f 0 (drop at s) n (omega arith) (omega arith) in
-    let t : take (0 + n) (paste f 0 (drop at s) n) ≡ take 0 f ++ take n (drop at s) = take-paste f 0 (drop at s) n (omega arith) (omega arith) in
-    let u : take n (paste f 0 (drop at s) n) ≡ take n (drop at s) = ap (λ (k : ℕ). take k (paste f 0 (drop at s) n)) (sym (zero-add n)) ∙ t in
-    sym (front-take n (paste f 0 (drop at s) n) (omega arith) ∙ u ∙ take_all n (drop at s) (omega arith))
-
 -- the bytes g are copied behind the first h of f
 pub front-more : (f g : List ℕ) (h : ℕ) → h + length g ≤ length f → front h f ++ g ≡ front (h + length g) (paste f h g (length g))
 front-more f g h b =
@@ -126,17 +105,10 @@ front-more f g h b =
     ∙ take-paste f h g (length g) (omega arith) (omega arith)
     ∙ rw (front-take h f (omega arith), take_all (length g) g (omega arith)))
 
--- the rest of s is held behind c frames
-pub held-rest : (f s : List ℕ) (c at : ℕ) → 13 * c + 12 ≤ length f → at ≤ length s → length s ≤ at + 12
-    → (drop at s ≡ front (length s - at) (drop (13 * c) (paste f (13 * c) (drop at s) (length s - at)))) × (chop c f ≡ chop c (paste f (13 * c) (drop at s) (length s - at)))
-held-rest f s c at a b r =
-    let n : ℕ = length s - at in
-    let z : 13 * c + 0 ≡ 13 * c = omega arith in
-    let low : drop (13 * c) (paste f (13 * c) (drop at s) n) ≡ paste (drop (13 * c) f) 0 (drop at s) n = rw z at (drop-low (13 * c) 0 n f (drop at s) (omega arith)) in
-    let top : take (13 * c) (paste f (13 * c) (drop at s) n) ≡ take (13 * c) f = rw z at (take-low (13 * c) 0 n f (drop at s) (omega arith)) in (
-      front_rest (drop (13 * c) f) s at b (omega (arith, length-drop (13 * c) f)) ∙ ap (front n) (sym low),
-      sym (chop-same c (paste f (13 * c) (drop at s) n) f top),
-    )
+-- and where none were held
+pub held-rest : (f f' t : List ℕ) (c : ℕ) → front 0 (drop (13 * c) f) ++ t ≡ front (0 + length t) (drop (13 * c) f') → t ≡ front (length t) (drop (13 * c) f')
+unfolding front
+held-rest f f' t c e = rw (zero-add (length t)) at e
 
 -- of the bridge w its bytes from `at` up to m are held behind c frames, where 12 places are copied
 pub held-bridge : (f w : List ℕ) (c at m : ℕ) → 13 * c + 12 ≤ length f → at + 12 ≤ length w → at ≤ m → m ≤ at + 12

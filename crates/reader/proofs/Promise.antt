@@ -11,8 +11,8 @@ use Rattle.reader.specs.View.{config, chop, front, view, Answered}
 use Rattle.reader.specs.Cuts.{Fed, CodeCutsDontMatter}
 use Rattle.reader.specs.Told.{fresh_counts}
 use Rattle.reader.specs.declared.Counts.{Counts}
-use Rattle.reader.specs.declared.Told.{Told}
-use Rattle.reader.specs.declared.Pushed.{Pushed}
+use Rattle.reader.specs.declared.pushing.Told.{Told}
+use Rattle.reader.specs.declared.pushing.Pushed.{Pushed}
 use Rattle.reader.proofs.Parts.{length-chop, length_front}
 
 -- ---- one push

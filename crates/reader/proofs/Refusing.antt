@@ -1,12 +1,13 @@
 -- The refusal of a bad state, from what the code tests. Assumes nothing.
-use Rattle.std.proofs.Common.{◌≡◌, ℕ, zero, suc, ◌+◌, ◌*◌, ◌%◌, ◌<◌, ◌≤◌, Bool, true, false, not, ◌&&◌, ◌||◌, eqb, ltb, leb, List, get_or, sym, refl, ap, ◌∙◌, true≢false, arith, ltb-false, ltb-true, le-ltb, lt-ltb, eq-eqb, ne_eqb, eqb-true, le-leb, leb-false}
-use native.Mathlib.Nat.{mod-add-mod}
+use Rattle.std.proofs.Common.{◌≡◌, ℕ, zero, suc, ◌*◌, ◌<◌, ◌≤◌, Bool, true, false, not, ◌&&◌, ◌||◌, eqb, ltb, leb, List, get_or, sym, refl, ap, ◌∙◌, true≢false, arith, ltb-false, ltb-true, le-ltb, lt-ltb, eq-eqb, ne_eqb, eqb-true, le-leb, leb-false}
 use borrow.Author.Tests.{lt-leb, not-false}
-use Rattle.frame.specs.declared.Refusal.TheVariants.{BadState}
-use Rattle.frame.specs.declared.Check.TheVariants.{Sound}
-use Rattle.frame.specs.Refusals.{check_number, refuse}
-use Rattle.rules.specs.Reader.{all_of, complete, bad, state_number}
-use Rattle.rules.proofs.Bools.{or_false, and-false}
+use Rattle.std.specs.Prelude.{Ok, Err, ⊤}
+use Rattle.frame.specs.declared.refusal.Refusal.{Refusal}
+use Rattle.frame.specs.declared.refusal.Refusal.TheVariants.{BadState}
+use Rattle.frame.specs.Refusals.{sound, refuse}
+use Rattle.rules.specs.Reader.{all_of, complete, bad, state_check}
+use Rattle.std.proofs.lemmas.Bool.{or_parts}
+use Rattle.rules.proofs.Bools.{and-false}
 use Rattle.reader.specs.View.{five_in, front, view}
 use Rattle.reader.specs.declared.Counts.{Counts}
 use Rattle.reader.proofs.Parts.{length-chop, length_front, first_of}
@@ -36,11 +37,11 @@ pub sane : (c : Counts) (f : List ℕ) → bad (view c f) ≡ false
     → (c.held ≤ 12) × (c.wanted ≤ 85) × (c.collected ≤ c.wanted) × (0 < c.held → c.collected < c.wanted) × (0 < c.held → get_or f (13 * c.collected) 0 ≡ 0xA5)
 unfolding refused
 sane c f e =
-    let x₅ = or_false _ _ (sym (bad-refused c f) ∙ e) in
-    let x₄ = or_false _ _ x₅.0 in
-    let x₃ = or_false _ _ x₄.0 in
-    let x₂ = or_false _ _ x₃.0 in
-    let x₁ = or_false _ _ x₂.0 in (
+    let x₅ = or_parts _ _ (sym (bad-refused c f) ∙ e) in
+    let x₄ = or_parts _ _ x₅.0 in
+    let x₃ = or_parts _ _ x₄.0 in
+    let x₂ = or_parts _ _ x₃.0 in
+    let x₁ = or_parts _ _ x₂.0 in (
       ltb-false _ _ x₁.0,
       ltb-false _ _ x₁.1,
       ltb-false _ _ x₂.1,
@@ -65,7 +66,7 @@ few-unmarked c f e m =
     || ltb c.wanted c.collected
     || (leb c.wanted c.collected && ltb 0 c.held)
     || (ltb 0 c.held && not (eqb (get_or f (13 * c.collected) 0) 0xA5)) in
-    let x = or_false first (ltb 512 (all_of (five_in c.tally)) && not c.mark) (sym (bad-refused c f) ∙ e) in go (ltb 512 (all_of (five_in c.tally))) refl x.1
+    let x = or_parts first (ltb 512 (all_of (five_in c.tally)) && not c.mark) (sym (bad-refused c f) ∙ e) in go (ltb 512 (all_of (five_in c.tally))) refl x.1
   where
     go : (b : Bool) → ltb 512 (all_of (five_in c.tally)) ≡ b → ltb 512 (all_of (five_in c.tally)) && not c.mark ≡ false → all_of (five_in c.tally) ≤ 512
     go true q x = absurd (true≢false (rw (q, m) at x))
@@ -73,17 +74,17 @@ few-unmarked c f e m =
 
 -- the tests in the code's order
 module _ (c : Counts) (f : List ℕ) where
-  pub too_full : 12 < c.held → 8 ≡ state_number (view c f)
+  pub too_full : 12 < c.held → true ≡ bad (view c f)
   unfolding refused
   too_full h = rw (bad-refused c f, lt-ltb 12 c.held h)
 
   module _ (h : c.held ≤ 12) where
-    pub too_many : 85 < c.wanted → 8 ≡ state_number (view c f)
+    pub too_many : 85 < c.wanted → true ≡ bad (view c f)
     unfolding refused
     too_many w = rw (bad-refused c f, le-ltb 12 c.held h, lt-ltb 85 c.wanted w)
 
     module _ (w : c.wanted ≤ 85) where
-      pub too_far : c.wanted < c.collected → 8 ≡ state_number (view c f)
+      pub too_far : c.wanted < c.collected → true ≡ bad (view c f)
       unfolding refused
       too_far k = rw (bad-refused c f, le-ltb 12 c.held h, le-ltb 85 c.wanted w, lt-ltb c.wanted c.collected k)
 
@@ -103,53 +104,47 @@ module _ (c : Counts) (f : List ℕ) where
           some? : ltb 0 c.held ≡ true
           some? = lt-ltb 0 c.held (omega arith)
 
-          pub too_late : c.wanted ≤ c.collected → 8 ≡ state_number (view c f)
+          pub too_late : c.wanted ≤ c.collected → true ≡ bad (view c f)
           too_late l = rw (bad-refused c f, start, some?, le-leb c.wanted c.collected l)
 
           module _ (l : c.collected < c.wanted) where
-            pub not-begun : (get_or f (13 * c.collected) 0 ≡ 0xA5 → ⊥) → 8 ≡ state_number (view c f)
+            pub not-begun : (get_or f (13 * c.collected) 0 ≡ 0xA5 → ⊥) → true ≡ bad (view c f)
             not-begun n = rw (bad-refused c f, start, some?, lt-leb c.wanted c.collected l, ne_eqb (get_or f (13 * c.collected) 0) 0xA5 n)
 
             pub begun : get_or f (13 * c.collected) 0 ≡ 0xA5 → bad (view c f) ≡ ltb 512 (all_of (five_in c.tally)) && not c.mark
             begun n = bad-refused c f ∙ start ∙ rw (some?, lt-leb c.wanted c.collected l, eq-eqb (get_or f (13 * c.collected) 0) 0xA5 n)
 
   -- whatever is held, and wherever the collected frames end
-  pub any_many : 85 < c.wanted → 8 ≡ state_number (view c f)
+  pub any_many : 85 < c.wanted → true ≡ bad (view c f)
   any_many w = go (ltb 12 c.held) refl
     where
-      go : (b : Bool) → ltb 12 c.held ≡ b → 8 ≡ state_number (view c f)
+      go : (b : Bool) → ltb 12 c.held ≡ b → true ≡ bad (view c f)
       go true e = too_full (ltb-true 12 c.held e)
       go false e = too_many (ltb-false 12 c.held e) w
 
-  pub past : c.held ≤ 12 → c.wanted ≤ 85 → (c.held ≡ 0 → ⊥) → c.wanted ≤ c.collected → 8 ≡ state_number (view c f)
+  pub past : c.held ≤ 12 → c.wanted ≤ 85 → (c.held ≡ 0 → ⊥) → c.wanted ≤ c.collected → true ≡ bad (view c f)
   past h w z l = go (ltb c.wanted c.collected) refl
     where
-      go : (b : Bool) → ltb c.wanted c.collected ≡ b → 8 ≡ state_number (view c f)
+      go : (b : Bool) → ltb c.wanted c.collected ≡ b → true ≡ bad (view c f)
       go true e = too_far h w (ltb-true c.wanted c.collected e)
       go false e = too_late h w (ltb-false c.wanted c.collected e) z l
 
-  pub is-refused : (r : ℕ) → r ≡ state_number (view c f) → (r ≡ 0 → ⊥) → bad (view c f) ≡ true
-  is-refused r e n = go (bad (view c f)) e
+  pub is-refused : (r : Refusal) → Err r ≡ state_check (view c f) → (bad (view c f) ≡ true) × (r ≡ BadState)
+  is-refused r e = go (bad (view c f)) e
     where
-      go : (b : Bool) → r ≡ check_number (refuse b BadState Sound) → b ≡ true
-      go true q = refl
-      go false q = absurd (n q)
+      go : (b : Bool) → Err r ≡ refuse b BadState sound → (b ≡ true) × (r ≡ BadState)
+      go true q = (refl, cc)
+      go false q = absurd (cc)
 
-  pub not-refused : (r : ℕ) → r ≡ state_number (view c f) → r ≡ 0 → bad (view c f) ≡ false
-  not-refused r e n = go (bad (view c f)) e
+  pub not-refused : (x : ⊤) → Ok x ≡ state_check (view c f) → bad (view c f) ≡ false
+  not-refused x e = go (bad (view c f)) e
     where
-      go : (b : Bool) → r ≡ check_number (refuse b BadState Sound) → b ≡ false
-      go true q = absurd (omega arith)
+      go : (b : Bool) → Ok x ≡ refuse b BadState sound → b ≡ false
+      go true q = absurd (cc)
       go false q = refl
 
--- a test that is known decides the number
-pub numbered : {a b : Bool} → a ≡ b → check_number (refuse b BadState Sound) ≡ check_number (refuse a BadState Sound)
-numbered e = ap (λ (t : Bool). check_number (refuse t BadState Sound)) (sym e)
-
 -- five numbers added one after the other, each time modulo 2^32
-pub five_wrapped : (a b c d e : ℕ) → ((((a + b) % 4294967296 + c) % 4294967296 + d) % 4294967296 + e) % 4294967296 ≡ (a + b + c + d + e) % 4294967296
-five_wrapped a b c d e = rw (mod-add-mod (a + b) 4294967296 c, mod-add-mod (a + b + c) 4294967296 d, mod-add-mod (a + b + c + d) 4294967296 e)
 
 -- a count that is known
-pub recounted : {x y : ℕ} (m : Bool) → x ≡ y → check_number (refuse (ltb 512 x && not m) BadState Sound) ≡ check_number (refuse (ltb 512 y && not m) BadState Sound)
-recounted m e = ap (λ (z : ℕ). check_number (refuse (ltb 512 z && not m) BadState Sound)) e
+pub recounted : {x y : ℕ} (m : Bool) → x ≡ y → ltb 512 x && not m ≡ ltb 512 y && not m
+recounted m e = ap (λ (z : ℕ). ltb 512 z && not m) e

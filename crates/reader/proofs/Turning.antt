@@ -1,14 +1,15 @@
 -- What is missing after a push, from its status and the reader's numbers. Assumes nothing.
 use Rattle.std.proofs.Common.{◌≡◌, ℕ, ◌-◌, ◌<◌, ◌≤◌, Bool, true, false, ltb, List, sym, refl, ap, ◌∙◌, arith, ltb-false, ltb-true}
 use Rattle.wire.proofs.Decides.{both}
-use Rattle.rules.specs.Reader.{Reader, bad, missing, push, booked, status, state_number}
+use Rattle.rules.specs.Reader.{Reader, bad, missing, push, booked, status, state_check}
+use Rattle.std.specs.Prelude.{Ok}
 use Rattle.rules.proofs.Demand.{bad-push}
 use Rattle.reader.specs.View.{view, Answered}
 use Rattle.reader.specs.Lent.{TurnedInto}
 use Rattle.reader.specs.declared.Counts.{Counts}
-use Rattle.reader.specs.declared.Missing.{Missing}
-use Rattle.reader.specs.declared.Told.{Told}
-use Rattle.reader.specs.declared.Turn.{Turn}
+use Rattle.reader.specs.declared.queries.Missing.{Missing}
+use Rattle.reader.specs.declared.pushing.Told.{Told}
+use Rattle.reader.specs.declared.pushing.Turn.{Turn}
 use Rattle.reader.proofs.Refusing.{sane}
 use Rattle.reader.proofs.Asking.{missing-complete, missing_open}
 use Rattle.reader.proofs.Promise.{answered-push, answered-refused, shown, told_once}
@@ -50,14 +51,14 @@ module _ (f : List ℕ) (c : Counts) (s : List ℕ) (st tk : ℕ) (c' : Counts) 
     by_count : (st ≡ 8 → ⊥) → m ≡ missing (view c' f')
     by_count n = go (ltb c'.collected c'.wanted) refl
       where
-        number : 0 ≡ state_number (view c' f')
-        number = rw (stays_good n)
+        sound? : Ok tt ≡ state_check (view c' f')
+        sound? = rw (stays_good n)
 
         go : (b : Bool) → ltb c'.collected c'.wanted ≡ b → m ≡ missing (view c' f')
         go true e =
-            let h = ltb-true c'.collected c'.wanted e in lacks n h ∙ ap (λ (x : Missing). x.missing) (missing_open c' f' 0 number refl h)
+            let h = ltb-true c'.collected c'.wanted e in lacks n h ∙ ap (λ (x : Missing). x.missing) (missing_open c' f' tt sound? h)
         go false e =
-            let h = ltb-false c'.collected c'.wanted e in full n h ∙ ap (λ (x : Missing). x.missing) (missing-complete c' f' 0 number refl h)
+            let h = ltb-false c'.collected c'.wanted e in full n h ∙ ap (λ (x : Missing). x.missing) (missing-complete c' f' tt sound? h)
 
     pub missing-told : m ≡ missing (view c' f')
     unfolding missing

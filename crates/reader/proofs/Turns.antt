@@ -1,12 +1,12 @@
 -- What a scan over a slice comes to, and the laws by which a turn of its loop is one line.
 -- Assumes nothing.
 use Rattle.std.specs.Prelude.{if◌then◌else◌}
-use Rattle.std.proofs.Common.{◌≡◌, ℕ, zero, suc, ◌+◌, ◌-◌, ◌*◌, ◌<◌, ◌≤◌, Bool, true, false, eqb, ltb, List, [], ◌∷◌, ◌++◌, length, get_or, take, drop, set, sym, refl, ap, ◌∙◌, arith, length-drop, length-set, drop_of_length-le, get_or-drop, get_or-set_other, get_or-set_same, drop-drop, ltb-false, ltb-true, le-ltb, eq-eqb, eqb-true, le-leb}
+use Rattle.std.proofs.Common.{◌≡◌, ℕ, zero, suc, ◌+◌, ◌-◌, ◌*◌, ◌<◌, ◌≤◌, Bool, true, false, eqb, ltb, List, [], ◌∷◌, ◌++◌, length, get_or, take, drop, set, sym, refl, ap, ◌∙◌, arith, length-drop, length-set, drop_of_length-le, get_or-set_other, get_or-set_same, drop-drop, ltb-false, ltb-true, le-ltb, eq-eqb, eqb-true, le-leb}
 use mathlib.Core.Option.{none, some}
 use lib.Seq.{paste, set_out}
 use borrow.Author.Tests.{lt-leb, eqb-false}
 use Rattle.wire.specs.Bytes.{byte_at}
-use Rattle.rules.specs.Rules.{Config, Why, noise, wrong_sum, wrong_command, wrong_number, echo, span, Fate, discarded, collected, size, lost, sum_right, judge, look, restarts, stay, after, drops}
+use Rattle.rules.specs.Rules.{Config, Why, noise, wrong_sum, wrong_command, wrong_number, echo, span, Fate, discarded, collected, size, lost, judge, look, restarts, stay, after, drops}
 use Rattle.rules.specs.Ledger.{line, next, Outcome, halt, enter, run, total, discards, place, lost_for, discards_for, clears}
 use Rattle.rules.specs.Reader.{wrap, complete}
 use Rattle.rules.proofs.Run.{run-stop, run_more}
@@ -14,10 +14,11 @@ use Rattle.rules.proofs.Recut.{look-complete, look-held}
 use Rattle.rules.proofs.Good.{look-noise}
 use Rattle.reader.specs.View.{chop}
 use Rattle.reader.proofs.Parts.{length-chop}
-use Rattle.reader.specs.View.{config, seat, seat_of}
-use Rattle.reader.proofs.Parts.{window, cut, cut_is, length_cut, first_of, chop_copied}
-use Rattle.reader.specs.Steps.{Ran, Quiet}
-use Rattle.reader.proofs.Judge.{due_sum, is-collected, is-discarded, stays}
+use Rattle.reader.specs.View.{seat}
+use Rattle.reader.proofs.Parts.{window, length_window, first_of, chop_copied}
+use Rattle.reader.specs.Steps.{Ran, noise_in}
+use Rattle.reader.proofs.Noise.{before, few}
+use Rattle.reader.proofs.Judge.{stays}
 
 -- ---- the loop
 
@@ -145,26 +146,23 @@ here-start c t s f have at e =
 
 module _ (c : Config) (o₀ : Outcome) (t₀ s f : List ℕ) (have at l : ℕ) (t : List ℕ) (here : Here c o₀ t₀ s f have at l t) where
   -- a reason's count is stored
-  here-lost : (y : Why) (d v at' l' : ℕ) → v ≡ wrap (get_or t (seat y) 0 + d)
-      → Ahead o₀ t₀ (run c (chop have f) (drop at' s)) l' (get_or t 6 0) (λ z. get_or t (seat z) 0 + gains y d z) → Here c o₀ t₀ s f have at' l' (set t (seat y) v)
-  here-lost y d v at' l' e a =
+  here-lost : (y : Why) (d at' l' : ℕ) (u : List ℕ) → u ≡ set t (seat y) (wrap (get_or t (seat y) 0 + d))
+      → Ahead o₀ t₀ (run c (chop have f) (drop at' s)) l' (get_or t 6 0) (λ z. get_or t (seat z) 0 + gains y d z) → Here c o₀ t₀ s f have at' l' u
+  here-lost y d at' l' u e a =
+      let v : ℕ = wrap (get_or t (seat y) 0 + d) in
+      rw e
       record {
-        ahead = recount _ _ (ap wrap (get_or-set_other t (seat y) 6 v 0 (λ q. omega (arith, place-few y)))) (seat-set t y v d here.long e) a;
+        ahead = recount _ _ (ap wrap (get_or-set_other t (seat y) 6 v 0 (λ q. omega (arith, place-few y)))) (seat-set t y v d here.long refl) a;
         taken = get_or-set_other t (seat y) 0 v 0 (λ q. omega arith) ∙ here.taken;
         long = length-set t (seat y) v ∙ here.long;
-        small = λ h. set-small t (seat y) v (omega (arith, e)) (here.small h);
+        small = λ h. set-small t (seat y) v (omega arith) (here.small h);
       }
 
   -- the bytes before the next A5 are passed at once
-  pub here_quiet : (to v : ℕ) → have < c.wanted → at ≤ to → to ≤ length s → Quiet s at to → v ≡ wrap (get_or t 1 0 + (to - at)) → Here c o₀ t₀ s f have to (l + (to - at)) (set t 1 v)
-  here_quiet to v w b m n k =
-      let q : at + (to - at) ≡ to = omega arith in
-      let e : drop (to - at) (drop at s) ≡ drop to s = drop-drop (to - at) at s ∙ rw q in
-      here-lost noise (to - at) v to (l + (to - at)) k
-      (rw e at (ahead_noise c o₀ t₀ (to - at) (chop have f) (drop at s) l (get_or t 6 0) (λ y. get_or t (seat y) 0) (is_open c have f w) (omega (arith, length-drop at s)) each-one here.ahead))
-    where
-      each-one : (i : ℕ) → i < to - at → get_or (drop at s) i 0 ≡ 0xA5 → ⊥
-      each-one i h z = n (at + i) (omega arith) (omega arith) (sym (get_or-drop at s i 0) ∙ z)
+  pub here_quiet : (n : ℕ) (u : List ℕ) → have < c.wanted → n ≡ noise_in (drop at s) → u ≡ set t 1 (wrap (get_or t 1 0 + n)) → Here c o₀ t₀ s f have (at + n) (l + n) u
+  here_quiet n u w k e =
+      here-lost noise n (at + n) (l + n) u e
+      (rw (← drop-drop n at s) (ahead_noise c o₀ t₀ n (chop have f) (drop at s) l (get_or t 6 0) (λ y. get_or t (seat y) 0) (is_open c have f w) (omega (arith, k, few (drop at s))) (λ i h. before (drop at s) i (omega (arith, h, k))) here.ahead))
 
   module _ (w : have < c.wanted) (b : at + 13 ≤ length s) (z : get_or s at 0 ≡ 0xA5) where
     judged : look c (length (chop have f)) (drop at s) ≡ some (judge c have (window s at))
@@ -172,49 +170,40 @@ module _ (c : Config) (o₀ : Outcome) (t₀ s f : List ℕ) (have at l : ℕ) (
         look-judge c (chop have f) (drop at s) (is_open c have f w) (omega (arith, length-drop at s)) (first_of s at ∙ z)
         ∙ ap (λ (n : ℕ). some (judge c n (window s at))) (length-chop have f)
 
-    here_why : (y : Why) (v : ℕ) → judge c have (cut s at) ≡ discarded y → v ≡ wrap (get_or t (seat y) 0 + span y) → Here c o₀ t₀ s f have (at + span y) (l + span y) (set t (seat y) v)
-    here_why y v q k =
-        let e : judge c have (window s at) ≡ discarded y = sym (ap (λ (x : List ℕ). judge c have x) (cut_is s at)) ∙ q in
-        here-lost y (span y) v (at + span y) (l + span y) k
-        (rw (← drop-drop (span y) at s) (ahead_discarded c o₀ t₀ (chop have f) (drop at s) l (get_or t 6 0) (λ z. get_or t (seat z) 0) y (judged ∙ ap (λ (a : Fate). some a) e) here.ahead))
-
-    -- one byte, for a wrong sum
-    pub here-summed : (v : ℕ) → sum_right (cut s at) ≡ false → v ≡ wrap (get_or t 2 0 + 1) → Here c o₀ t₀ s f have (at + 1) (l + 1) (set t 2 v)
-    here-summed v e k = here_why wrong_sum v (due_sum c have (cut s at) (length_cut s at b) e) k
-
-    -- 13 bytes, for another reason
-    pub here-discarded : (r v : ℕ) → r ≡ seat_of (judge c have (cut s at)) → (r ≡ 0 → ⊥) → (0 < r → 2 < r) → v ≡ wrap (get_or t r 0 + 13) → Here c o₀ t₀ s f have (at + 13) (l + 13) (set t r v)
-    here-discarded r v e n m k = go (is-discarded (judge c have (cut s at)) r e n m)
-      where
-        go : (y : Why) × (judge c have (cut s at) ≡ discarded y) × (span y ≡ 13) × (r ≡ seat y) → Here c o₀ t₀ s f have (at + 13) (l + 13) (set t r v)
-        go (y, q, p, z) = rw (z, ← p) (here_why y v q (rw (p, ← z) k))
+    -- bytes are discarded for a reason
+    pub here-discarded : (y : Why) (p d : ℕ) (u : List ℕ) → discarded y ≡ judge c have (window s at) → p ≡ seat y → d ≡ span y → u ≡ set t p (wrap (get_or t p 0 + d)) → Here c o₀ t₀ s f have (at + d) (l + d) u
+    here-discarded y p d u q i j k =
+        rw j
+        (here-lost y (span y) (at + span y) (l + span y) u (rw (i, j) at k)
+        (rw (← drop-drop (span y) at s) (ahead_discarded c o₀ t₀ (chop have f) (drop at s) l (get_or t 6 0) (λ z. get_or t (seat z) 0) y (judged ∙ ap (λ (a : Fate). some a) (sym q)) here.ahead)))
 
     -- a frame is collected behind the first k
-    pub here-collected : (k v : ℕ) (g : List ℕ) → 0 ≡ seat_of (judge c have (cut s at)) → k ≡ (if restarts (config 0 c.wanted false) (cut s at) then 0 else have)
-        → g ≡ paste f (13 * k) (drop at s) 13 → 13 * k + 13 ≤ length f → v ≡ wrap (get_or t 6 0 + (have - k)) → Here c o₀ t₀ s g (k + 1) (at + 13) l (set t 6 v)
+    pub here-collected : (k : ℕ) (u g : List ℕ) → collected ≡ judge c have (window s at) → k ≡ (if restarts c (window s at) then 0 else have)
+        → g ≡ paste f (13 * k) (window s at) 13 → 13 * k + 13 ≤ length f → u ≡ set t 6 (wrap (get_or t 6 0 + (have - k))) → Here c o₀ t₀ s g (k + 1) (at + 13) l u
     unfolding after lost_for
-    here-collected k v g e ke ge room ve =
-        let q = stays c (window s at) f have k (ke ∙ ap (λ (x : List ℕ). if restarts (config 0 c.wanted false) x then 0 else have) (cut_is s at)) in
-        let e' : 0 ≡ seat_of (judge c have (window s at)) = e ∙ ap (λ (x : List ℕ). seat_of (judge c have x)) (cut_is s at) in
+    here-collected k u g e ke ge room ue =
+        let v : ℕ = wrap (get_or t 6 0 + (have - k)) in
+        let q = stays c (window s at) f have k ke in
         let n : Why → ℕ = λ y. get_or t (seat y) 0 in
         let a : Ahead o₀ t₀ (run c (stay c (window s at) (chop have f) ++ (window s at ∷ [])) (drop 13 (drop at s))) (l + 0) (get_or t 6 0 + drops c collected (window s at) (chop have f)) (λ y. n y + 0) =
-        ahead_turn c o₀ t₀ (chop have f) (drop at s) l (get_or t 6 0) n collected (judged ∙ ap (λ (x : Fate). some x) (is-collected (judge c have (window s at)) e')) here.ahead in
-        let u : Ahead o₀ t₀ (run c (chop (k + 1) g) (drop (at + 13) s)) (l + 0) (get_or t 6 0 + (have - k)) (λ y. n y + 0) =
-        rw (ge, chop_copied f s k at room b, ← q.0, ← q.1, ← drop-drop 13 at s) a in
+        ahead_turn c o₀ t₀ (chop have f) (drop at s) l (get_or t 6 0) n collected (judged ∙ ap (λ (x : Fate). some x) (sym e)) here.ahead in
+        let h : Ahead o₀ t₀ (run c (chop (k + 1) g) (drop (at + 13) s)) (l + 0) (get_or t 6 0 + (have - k)) (λ y. n y + 0) =
+        rw (ge, chop_copied f (window s at) k room (length_window s at b), ← q.0, ← q.1, ← drop-drop 13 at s) a in
         let r : Ahead o₀ t₀ (run c (chop (k + 1) g) (drop (at + 13) s)) (l + 0) (get_or (set t 6 v) 6 0) (λ y. get_or (set t 6 v) (seat y) 0) =
-        recount _ _ (rw (get_or-set_same t 6 v 0 (omega (arith, here.long))) (omega (arith, ve))) (λ y. rw (get_or-set_other t 6 (seat y) v 0 (λ z. omega (arith, place-few y))) (omega arith)) u in
+        recount _ _ (rw (get_or-set_same t 6 v 0 (omega (arith, here.long))) (omega arith)) (λ y. rw (get_or-set_other t 6 (seat y) v 0 (λ z. omega (arith, place-few y))) (omega arith)) h in
+        rw ue
         record {
           ahead = record { collected = r.collected; rest = r.rest; lost = omega (arith, r.lost); cleared = r.cleared; why = r.why };
           taken = get_or-set_other t 6 0 v 0 (λ z. omega arith) ∙ here.taken;
           long = length-set t 6 v ∙ here.long;
-          small = λ h. set-small t 6 v (omega (arith, ve)) (here.small h);
+          small = λ h. set-small t 6 v (omega arith) (here.small h);
         }
 
   -- where no turn is possible the scan is at its end
-  pub here_end : (n : ℕ) → look c (length (chop have f)) (drop at s) ≡ none → at ≤ length s → l ≤ at → have ≤ n
-      → Ran o₀ t₀ t n s f record { at = at; lost = l; collected = have }
+  pub here_end : look c (length (chop have f)) (drop at s) ≡ none → at ≤ length s → l ≤ at
+      → Ran o₀ t₀ t s f record { at = at; lost = l; collected = have }
   unfolding total
-  here_end n e b m h =
+  here_end e b m =
       let g : Ahead o₀ t₀ (halt (chop have f) (drop at s)) l (get_or t 6 0) (λ y. get_or t (seat y) 0) = rw (run-stop c (chop have f) (drop at s) e) at here.ahead in
       record {
         collected = g.collected;
@@ -223,7 +212,6 @@ module _ (c : Config) (o₀ : Outcome) (t₀ s f : List ℕ) (have at l : ℕ) (
         tally = record { taken = here.taken; cleared = omega (arith, g.cleared); long = here.long; small = here.small; lost = λ y. omega (arith, g.why y) };
         within = b;
         less = m;
-        few = h;
       }
 
 module _ (c : Config) (s f : List ℕ) (have at : ℕ) where

@@ -3,11 +3,11 @@ use Rattle.std.specs.Prelude.{◌≡◌, ℕ, Bool, true, List}
 use Rattle.rules.specs.Reader.{Reader, bad, missing}
 use Rattle.reader.specs.View.{view, Answered}
 use Rattle.reader.specs.Told.{opened}
-use Rattle.reader.specs.declared.Opened.{Opened}
+use Rattle.reader.specs.declared.fresh.Opened.{Opened}
 use Rattle.reader.specs.declared.FrameReader.{FrameReader}
 use Rattle.reader.specs.declared.Counts.{Counts}
-use Rattle.reader.specs.declared.Said.{Said}
-use Rattle.reader.specs.declared.Turn.{Turn}
+use Rattle.reader.specs.declared.pushing.Said.{Said}
+use Rattle.reader.specs.declared.pushing.Turn.{Turn}
 
 -- a lent reader as the rules see it
 abbrev pub seen : FrameReader → Reader

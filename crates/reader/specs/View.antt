@@ -1,25 +1,39 @@
 -- The reader's struct as the rules see it, and what a push answers. Definitions only.
-use Rattle.std.specs.Prelude.{◌≡◌, ℕ, zero, suc, ◌+◌, ◌*◌, Bool, true, List, [], ◌∷◌, length, take, drop, slice_index}
-use Rattle.rules.specs.Rules.{Config, Why, Fate, discarded, collected}
+use Rattle.std.specs.Prelude.{◌≡◌, ℕ, zero, suc, ◌+◌, ◌*◌, Bool, true, List, [], ◌∷◌, length, take, drop, slice_index, Result, Ok, Err, ⊤}
+use Rattle.rules.specs.Rules.{Config, Why, noise, wrong_sum, wrong_command, wrong_number, echo, Fate, discarded, collected}
 use Rattle.rules.specs.Ledger.{place}
 use Rattle.rules.specs.Reader.{Reader, Discards, each, bad, answer}
 use Rattle.reader.specs.declared.Counts.{Counts}
 use Rattle.reader.specs.declared.Standing.{Standing}
+use Rattle.reader.specs.declared.asked.Asked.{Asked}
+use Rattle.reader.specs.declared.tally.Why.{Why as Reason}
+use Rattle.reader.specs.declared.tally.Why.TheVariants.{Noise, Sum, Command, Number, Echo}
 use Rattle.reader.specs.declared.tally.Discarded.{Discarded}
 
 abbrev pub config : ℕ → ℕ → Bool → Config
 config command wanted strict = record { command = command; wanted = wanted; strict = strict }
+
+abbrev pub config_of : Asked → Config
+config_of a = config a.command a.wanted a.strict
+
+-- ---- what becomes of bytes, as the code says it
+
+abbrev pub reason : Reason → Why
+reason Noise = noise
+reason Sum = wrong_sum
+reason Command = wrong_command
+reason Number = wrong_number
+reason Echo = echo
+
+abbrev pub fate : Result ⊤ Reason → Fate
+fate (Ok done) = collected
+fate (Err y) = discarded (reason y)
 
 -- ---- the tally: seven counts, of which the first is the bytes taken and the last the frames cleared
 
 -- where a reason's bytes are counted in it: between those two, in document 02's order
 abbrev pub seat : Why → ℕ
 seat y = 1 + place y
-
--- and those of a verdict, 0 for a frame that is collected
-abbrev pub seat_of : Fate → ℕ
-seat_of (discarded y) = seat y
-seat_of collected = 0
 
 -- the five counts in a tally
 abbrev pub five_in : List ℕ → Discards

@@ -1,26 +1,35 @@
 // The tally: a reader's seven counts, each modulo 2^32, in the places in which C has them by name.
-ghost use Rattle.std.specs.Prelude.{◌≡◌, ℕ, ◌+◌, ◌%◌, ◌<◌, length, slice_index};
+ghost use Rattle.std.specs.Prelude.{◌≡◌, ℕ, ◌+◌, ◌%◌, ◌<◌, slice_index, slice_set};
 ghost use Rattle.rules.specs.Reader.{all_of};
-ghost use Rattle.reader.specs.View.{discarded_in, reasons};
+ghost use Rattle.reader.specs.View.{discarded_in, reasons, reason, seat};
 
-// The bytes taken; the bytes discarded, by reason; the frames cleared.
+// The place of the bytes taken, and that of the frames cleared; between them are those of the bytes discarded (`Why::place`).
 pub const TAKEN: usize = 0;
-
-pub const NOISE: usize = 1;
-
-pub const SUM: usize = 2;
-
-pub const COMMAND: usize = 3;
-
-pub const NUMBER: usize = 4;
-
-pub const ECHO: usize = 5;
 
 pub const CLEARED: usize = 6;
 
-// Why bytes were discarded: "bytes before A5, bytes after a wrong sum, wrong command, wrong number, echo" (document 02, K3).
+// Why bytes are discarded: "bytes before A5, bytes after a wrong sum, wrong command, wrong number, echo" (document 02, K3).
+#[derive(Clone, Copy, Debug, PartialEq, Eq)]
+pub(crate) enum Why {
+    Noise = 1,
+    Sum,
+    Command,
+    Number,
+    Echo,
+}
+
+impl Why {
+    // Where they are counted.
+    pub(crate) fn place(self) -> usize
+        ensures { result ≡ seat (reason self) }
+    {
+        self as usize
+    }
+}
+
+// The counts of the bytes discarded, by name.
 #[repr(C)]
-#[derive(Clone, Copy)]
+#[derive(Clone, Copy, Debug, PartialEq, Eq)]
 pub struct Discarded {
     pub noise: u32,
     pub sum: u32,
@@ -34,24 +43,11 @@ impl Discarded {
     pub fn all(self) -> u32
         ensures { result ≡ all_of (reasons self) }
     {
-        let two = std::num::wrapping_add_u32(self.noise, self.sum);
-        let three = std::num::wrapping_add_u32(two, self.command);
-        let four = std::num::wrapping_add_u32(three, self.number);
-        std::num::wrapping_add_u32(four, self.echo)
-    }
-}
-
-// The five of a tally, which has seven counts; and that each of those is below 2^32, which only a slice tells.
-pub(crate) fn five_of(tally: &[u32]) -> Discarded
-    requires { length tally.now ≡ 7 }
-    ensures { (result ≡ discarded_in tally.now) × ((i : ℕ) → slice_index tally.now i < 4294967296) }
-{
-    Discarded {
-        noise: tally[NOISE],
-        sum: tally[SUM],
-        command: tally[COMMAND],
-        number: tally[NUMBER],
-        echo: tally[ECHO],
+        self.noise
+            .wrapping_add(self.sum)
+            .wrapping_add(self.command)
+            .wrapping_add(self.number)
+            .wrapping_add(self.echo)
     }
 }
 
@@ -59,12 +55,19 @@ pub(crate) fn five_of(tally: &[u32]) -> Discarded
 pub fn discarded_in(tally: &[u32; 7]) -> Discarded
     ensures { result ≡ discarded_in tally.now }
 {
-    five_of(tally)
+    Discarded {
+        noise: tally[Why::Noise.place()],
+        sum: tally[Why::Sum.place()],
+        command: tally[Why::Command.place()],
+        number: tally[Why::Number.place()],
+        echo: tally[Why::Echo.place()],
+    }
 }
 
-// A count goes on, modulo 2^32.
-pub(crate) fn add_count(count: u32, more: usize) -> u32
-    ensures { result ≡ (count + more) % 4294967296 }
+// A count goes on, modulo 2^32: one function for all seven, where a field by name would need one for each. So the tally has places and no names.
+pub(crate) fn add_count(tally: &mut [u32; 7], place: usize, more: usize)
+    requires { place < 7 }
+    ensures { tally.new ≡ slice_set tally.old place ((slice_index tally.old place + more) % 4294967296) }
 {
-    std::num::wrapping_add_u32(count, (more % 0x1_0000_0000) as u32)
+    tally[place] = tally[place].wrapping_add((more % 0x1_0000_0000) as u32);
 }

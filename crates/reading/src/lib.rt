@@ -4,17 +4,15 @@
 
 ghost use Rattle.std.specs.Prelude.{◌≡◌};
 ghost use Rattle.frame.specs.Checks.{frame_check};
+ghost use Rattle.reading.specs.Acknowledged.{acknowledged_command};
 
-pub use cell_voltage_range::{
-    CellVoltageRange, CellVoltageRangeAnswer, CellVoltageRangeCounts, CellVoltageRangeCountsAnswer,
-};
-use frame::Check;
-pub use mosfet_status::{
-    MosfetMode, MosfetStatus, MosfetStatusAnswer, MosfetStatusCounts, MosfetStatusCountsAnswer,
-};
-pub use soc::{Soc, SocAnswer, SocCounts, SocCountsAnswer};
-pub use status::{IOState, Status, StatusAnswer};
-pub use temperature_range::{TemperatureRange, TemperatureRangeAnswer};
+pub use cell_voltage_range::{CellVoltageRange, CellVoltageRangeCounts};
+pub use frame::Reply;
+use frame::{Mosfet, Refusal, command};
+pub use mosfet_status::{MosfetMode, MosfetStatus, MosfetStatusCounts};
+pub use soc::{Soc, SocCounts};
+pub use status::{IOState, Status};
+pub use temperature_range::TemperatureRange;
 
 // The size of every reply of this crate.
 pub fn reply_size() -> usize
@@ -23,27 +21,30 @@ pub fn reply_size() -> usize
     frame::FRAME_LENGTH
 }
 
-// Set and reset replies are only checked.
-pub fn decode_set_discharge_mosfet(rx_buffer: &[u8]) -> Check
-    ensures { result ≡ frame_check 0xD9 rx_buffer.now }
-{
-    frame::reply_check(rx_buffer, frame::command::SET_DISCHARGE_MOSFET)
+// Set and reset: their replies are only checked.
+#[derive(Clone, Copy, Debug, PartialEq, Eq)]
+pub enum Acknowledged {
+    SetMosfet(Mosfet),
+    SetSoc,
+    BmsReset,
 }
 
-pub fn decode_set_charge_mosfet(rx_buffer: &[u8]) -> Check
-    ensures { result ≡ frame_check 0xDA rx_buffer.now }
-{
-    frame::reply_check(rx_buffer, frame::command::SET_CHARGE_MOSFET)
+impl From<Acknowledged> for u8 {
+    ghost from_gives = { λ request command. command ≡ acknowledged_command request };
+
+    fn from(request: Acknowledged) -> u8 {
+        match request {
+            Acknowledged::SetMosfet(mosfet) => mosfet.into(),
+            Acknowledged::SetSoc => command::SET_SOC,
+            Acknowledged::BmsReset => command::BMS_RESET,
+        }
+    }
 }
 
-pub fn decode_set_soc(rx_buffer: &[u8]) -> Check
-    ensures { result ≡ frame_check 0x21 rx_buffer.now }
-{
-    frame::reply_check(rx_buffer, frame::command::SET_SOC)
-}
-
-pub fn decode_bms_reset(rx_buffer: &[u8]) -> Check
-    ensures { result ≡ frame_check 0x00 rx_buffer.now }
-{
-    frame::reply_check(rx_buffer, frame::command::BMS_RESET)
+impl Acknowledged {
+    pub fn decode(self, rx_buffer: &[u8]) -> Result<(), Refusal>
+        ensures { result ≡ frame_check (acknowledged_command self) rx_buffer.now }
+    {
+        frame::reply_check(rx_buffer, self.into())
+    }
 }

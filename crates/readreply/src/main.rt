@@ -6,22 +6,22 @@ ghost use Rattle.reply.specs.Input.{OfSomeInput};
 use reply::Input;
 use std::env::{Env, FillError};
 use std::io::{IsTerminal, Read, Stdin, Write};
+use usage::usage;
 
 mod usage;
 
 // Reads to the end of the input, which a read that fails ends too. A proved loop has to end, and nothing says that an input does:
-// so the loop counts its turns down, from a number that no run uses up.
+// so it ends at a number of turns that no run takes.
 fn read_all(mut stdin: Stdin, frames: &mut [u8; 1105], buffer: &mut [u8]) -> Input
     ensures { OfSomeInput result frames.new }
 {
     let mut input = reply::begin();
-    let mut turns = u64::MAX;
-    let mut more = true;
-    while more && turns > 0 {
+    for _ in 0..u64::MAX {
         let n = stdin.read(buffer).unwrap_or(0);
+        if n == 0 {
+            break;
+        }
         input = reply::push(frames, input, &buffer[..n]);
-        more = n > 0;
-        turns -= 1;
     }
     input
 }
@@ -31,11 +31,10 @@ fn main(rt: HostRuntime) {
     let has_argument = !matches!(rt.arg(1, &mut [0]), Err(FillError::NotPresent));
     // A terminal is not read either: it takes some bytes for keys and changes others, so that a capture would not come whole.
     if has_argument || rt.stdin().is_terminal() {
-        let mut text = [0u8; 1024];
-        let n = usage::put_usage(&mut text);
-        let _ = rt.stderr().write_all(&text[..n]);
+        let _ = rt.stderr().write_all(usage());
         return;
     }
+    // Arrays of fixed size, here and below: there is no heap.
     let mut frames = [0u8; 1105];
     let mut buffer = [0u8; 65536];
     let input = read_all(rt.stdin(), &mut frames, &mut buffer);

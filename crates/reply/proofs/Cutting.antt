@@ -3,15 +3,12 @@ use mathlib.Core.Path.{◌≡◌, refl, sym, ap, ◌∙◌}
 use mathlib.Core.Bool.{Bool, true, false}
 use mathlib.Core.List.{List, [], ◌∷◌, ◌++◌, append-nil}
 use Prim.Native.Nat.{ℕ}
-use lib.Dec.{ltb, eqb}
-use borrow.Author.Tests.{eqb-true}
 use Rattle.rules.specs.Reader.{Reader, bad, answer, joined, fresh}
 use Rattle.rules.proofs.Recut.{recut}
 use Rattle.rules.proofs.Demand.{bad-push}
 use Rattle.reply.specs.declared.Input.{Input}
 use Rattle.reply.specs.Output.{known, asked, reported, output_of}
-use Rattle.reply.specs.Input.{State, state_of, begun, streamed, from_second, from_first, pushed, printed, Came, HoweverCut, OfSomeInput}
-use Rattle.reply.proofs.Steps.{at_stream, at_second, at_first}
+use Rattle.reply.specs.Input.{State, nothing, first, stream, state_of, begun, streamed, from_second, from_first, pushed, printed, Came, HoweverCut, OfSomeInput}
 
 -- ---- two chunks are one
 
@@ -23,45 +20,29 @@ answer_twice r a b = go (bad r) refl
     go true e = rw (e, e)
     go false e = rw (e, bad-push r a e) (recut r a b)
 
-streamed_twice : (st : State) (a b : List ℕ) → streamed (streamed st a) b ≡ streamed st (a ++ b)
-unfolding streamed
-streamed_twice st a b = go (known st.command) refl
+streamed_twice : (c n : ℕ) (r : Reader) (a b : List ℕ) → pushed (streamed c n r a) b ≡ streamed c n r (a ++ b)
+unfolding pushed streamed
+streamed_twice c n r a b = go (known c) refl
   where
-    go : (t : Bool) → known st.command ≡ t → streamed (streamed st a) b ≡ streamed st (a ++ b)
-    go true e = rw (e, e, answer_twice st.reader a b)
-    go false e = rw (e, e)
-
--- the stream leaves the first two bytes as they are
-streamed-seen : (st : State) (s : List ℕ) → (streamed st s).seen ≡ st.seen
-unfolding streamed
-streamed-seen st s = go (known st.command) refl
-  where
-    go : (t : Bool) → known st.command ≡ t → (streamed st s).seen ≡ st.seen
-    go true e = rw e
+    go : (t : Bool) → known c ≡ t → pushed (streamed c n r a) b ≡ streamed c n r (a ++ b)
+    go true e = rw e (ap (stream c n) (answer_twice r a b))
     go false e = rw e
 
-streamed-then : (st : State) (a b : List ℕ) → ltb 1 st.seen ≡ true → pushed (streamed st a) b ≡ streamed st (a ++ b)
-streamed-then st a b e = at_stream (streamed st a) b (rw (streamed-seen st a) e) ∙ streamed_twice st a b
+second_then : (c : ℕ) (a b : List ℕ) → pushed (from_second c a) b ≡ from_second c (a ++ b)
+unfolding pushed from_second
+second_then c [] b = refl
+second_then c (n ∷ a) b = streamed_twice c n (fresh (asked c n)) a b
 
-second_then : (st : State) (a b : List ℕ) → st.seen ≡ 1 → pushed (from_second st a) b ≡ from_second st (a ++ b)
-unfolding from_second
-second_then st [] b e = at_second st b e
-second_then st (n ∷ a) b e = streamed-then _ a b refl
-
-first_then : (st : State) (a b : List ℕ) → ltb 1 st.seen ≡ false → eqb st.seen 1 ≡ false → pushed (from_first st a) b ≡ from_first st (a ++ b)
-unfolding from_first
-first_then st [] b e f = at_first st b e f
-first_then st (c ∷ a) b e f = second_then _ a b refl
+first_then : (a b : List ℕ) → pushed (from_first a) b ≡ from_first (a ++ b)
+unfolding pushed from_first
+first_then [] b = refl
+first_then (c ∷ a) b = second_then c a b
 
 pub pushed_twice : (st : State) (a b : List ℕ) → pushed (pushed st a) b ≡ pushed st (a ++ b)
-pushed_twice st a b = go (ltb 1 st.seen) (eqb st.seen 1) refl refl
-  where
-    go : (t u : Bool) → ltb 1 st.seen ≡ t → eqb st.seen 1 ≡ u → pushed (pushed st a) b ≡ pushed st (a ++ b)
-    go true u e f = rw (at_stream st a e, at_stream st (a ++ b) e) (streamed-then st a b e)
-    go false true e f =
-        let one : st.seen ≡ 1 = eqb-true st.seen 1 f in
-        rw (at_second st a one, at_second st (a ++ b) one) (second_then st a b one)
-    go false false e f = rw (at_first st a e f, at_first st (a ++ b) e f) (first_then st a b e f)
+unfolding pushed
+pushed_twice nothing a b = first_then a b
+pushed_twice (first c) a b = second_then c a b
+pushed_twice (stream c n r) a b = streamed_twice c n r a b
 
 -- ---- any chunks are one
 
@@ -74,17 +55,13 @@ came_on s (t ∷ ts) i f i' f' (i₁, f₁, e, more) =
 
 -- ---- what is printed then
 
-printed-stream : (command count : ℕ) (s : List ℕ)
-    → printed (streamed (record { seen = 2; command = command; count = count; reader = fresh (asked command count) }) s)
-    ≡ reported command count (answer (fresh (asked command count)) s).reader
+printed-stream : (c n : ℕ) (s : List ℕ) → printed (streamed c n (fresh (asked c n)) s) ≡ reported c n (answer (fresh (asked c n)) s).reader
 unfolding printed streamed reported
-printed-stream command count s = go (known command) refl
+printed-stream c n s = go (known c) refl
   where
-    go : (t : Bool) → known command ≡ t
-        → printed (streamed (record { seen = 2; command = command; count = count; reader = fresh (asked command count) }) s)
-        ≡ reported command count (answer (fresh (asked command count)) s).reader
-    go true e = rw (e, e)
-    go false e = rw (e, e)
+    go : (t : Bool) → known c ≡ t → printed (streamed c n (fresh (asked c n)) s) ≡ reported c n (answer (fresh (asked c n)) s).reader
+    go true e = rw e
+    go false e = rw e
 
 printed-begun : (f s : List ℕ) → printed (pushed (state_of begun f) s) ≡ output_of s
 unfolding printed state_of pushed from_first from_second

@@ -3,9 +3,10 @@ use mathlib.Core.Path.{◌≡◌, refl, ap, ◌∙◌}
 use mathlib.Core.Bool.{true, false}
 use mathlib.Core.List.{List, [], ◌∷◌, map}
 use Prim.Native.Nat.{ℕ}
+use native.Mathlib.Omega.{arith}
 use Rattle.frame.specs.Frame.{total, sum}
 use Rattle.text.specs.Words.{word}
-use Rattle.text.specs.Text.{decimal, hex2, field, line}
+use Rattle.text.specs.Text.{decimal, hex2, shown_field, shown_line}
 use Rattle.frame.specs.Checks.{len_check, header_check, checksum_check, frame_check}
 use Rattle.report.specs.Report.{answer_text}
 use Rattle.rules.specs.Rules.{sum_right, restarts, judge, look, stay, after, drops}
@@ -16,8 +17,9 @@ use Rattle.reader.specs.View.{chop, front, view}
 use Rattle.reader.specs.Told.{fresh_counts}
 use Rattle.report.proofs.Examples.{example}
 use Rattle.reply.specs.declared.Input.{Input}
+use Rattle.reply.specs.declared.Input.TheVariants.{Nothing, Command, Stream}
 use Rattle.reply.specs.Output.{tally, known, reply_size_for, asked, reported, output_of}
-use Rattle.reply.specs.Input.{State, state_of, begun, streamed, from_second, from_first, pushed, printed, tally_of, HoweverCut, OfSomeInput}
+use Rattle.reply.specs.Input.{nothing, first, stream, state_of, begun, streamed, from_second, from_first, pushed, printed, tally_of, HasSeven, HoweverCut, OfSomeInput}
 
 -- "Input `90 00 00 A5 A5 01 90 08 02 0B 00 00 74 B7 03 6A E3` prints, whole"
 pub document_01 :
@@ -31,7 +33,7 @@ pub refusals :
     ◌≡◌ {A = List (List ℕ)}
     (output_of [] ∷ output_of (0x99 ∷ []) ∷ output_of (0x99 ∷ 0x00 ∷ []) ∷ output_of (0x8F ∷ 0x00 ∷ frame90) ∷ [])
     (word "refused 7\n" ∷ word "refused 7\n" ∷ word "refused 10\n" ∷ word "refused 10\n" ∷ [])
-unfolding reported line field decimal
+unfolding reported shown_field shown_line decimal
 refusals = refl
 
 -- "command not 90 to 98"
@@ -52,10 +54,6 @@ wants = refl
 
 -- ---- the input in chunks
 
--- what has come, field by field
-abbrev came : ℕ → ℕ → ℕ → Reader → State
-came seen command count reader = record { seen = seen; command = command; count = count; reader = reader }
-
 abbrev none : Reader
 none = fresh record { command = 0; wanted = 0; strict = false }
 
@@ -64,33 +62,46 @@ fresh95 = fresh record { command = 0x95; wanted = 3; strict = false }
 
 -- nothing; a first byte; a first byte twice, the second of which is the count; and these in one chunk
 pub first_two :
-    (state_of begun [] ≡ came 0 0 0 none)
-    × (state_of (record { seen = 2; command = 0x90; count = 5; counts = fresh_counts 0x90 1 false }) [] ≡ came 2 0x90 5 (fresh c90))
-    × (pushed (came 0 0 0 none) [] ≡ came 0 0 0 none)
-    × (pushed (came 0 0 0 none) (0x95 ∷ []) ≡ came 1 0x95 0 none)
-    × (pushed (came 1 0x95 0 none) [] ≡ came 1 0x95 0 none)
-    × (pushed (came 1 0x95 0 none) (8 ∷ []) ≡ came 2 0x95 8 fresh95)
-    × (pushed (came 0 0 0 none) (0x95 ∷ 8 ∷ []) ≡ came 2 0x95 8 fresh95)
+    (state_of begun [] ≡ nothing)
+    × (state_of (Stream (record { command = 0x90; count = 5; counts = fresh_counts 0x90 1 false })) [] ≡ stream 0x90 5 (fresh c90))
+    × (pushed nothing [] ≡ nothing)
+    × (pushed nothing (0x95 ∷ []) ≡ first 0x95)
+    × (pushed (first 0x95) [] ≡ first 0x95)
+    × (pushed (first 0x95) (8 ∷ []) ≡ stream 0x95 8 fresh95)
+    × (pushed nothing (0x95 ∷ 8 ∷ []) ≡ stream 0x95 8 fresh95)
 unfolding state_of view chop front pushed from_first from_second streamed reply_size_for answer bad push did run turns look judge restarts sum_right sum total after drops stay booked counted lost_for complete held_of untaken
 first_two = (refl, refl, refl, refl, refl, refl, refl)
 
 -- the stream goes to the reader, cut or whole; where no such command can be asked, nothing is read
 pub streams :
-    (pushed (came 2 0x90 5 (fresh c90)) (0 ∷ 0xA5 ∷ []) ≡ came 2 0x90 5 (answered c90 0 0 [] (0xA5 ∷ []) 2 (five 1 0 0 0 0) 0 false).reader)
-    × (pushed (came 2 0x90 5 (answered c90 0 0 [] (0xA5 ∷ []) 2 (five 1 0 0 0 0) 0 false).reader) frame90 ≡ came 2 0x90 5 (answered c90 0 0 (frame90 ∷ []) [] 15 (five 1 1 0 0 0) 0 false).reader)
-    × (pushed (came 0 0 0 none) (0x90 ∷ 5 ∷ 0 ∷ 0xA5 ∷ frame90) ≡ came 2 0x90 5 (answered c90 0 0 (frame90 ∷ []) [] 15 (five 1 1 0 0 0) 0 false).reader)
-    × (pushed (came 2 0x99 5 (fresh c90)) frame90 ≡ came 2 0x99 5 (fresh c90))
+    (pushed (stream 0x90 5 (fresh c90)) (0 ∷ 0xA5 ∷ []) ≡ stream 0x90 5 (answered c90 0 0 [] (0xA5 ∷ []) 2 (five 1 0 0 0 0) 0 false).reader)
+    × (pushed (stream 0x90 5 (answered c90 0 0 [] (0xA5 ∷ []) 2 (five 1 0 0 0 0) 0 false).reader) frame90 ≡ stream 0x90 5 (answered c90 0 0 (frame90 ∷ []) [] 15 (five 1 1 0 0 0) 0 false).reader)
+    × (pushed nothing (0x90 ∷ 5 ∷ 0 ∷ 0xA5 ∷ frame90) ≡ stream 0x90 5 (answered c90 0 0 (frame90 ∷ []) [] 15 (five 1 1 0 0 0) 0 false).reader)
+    × (pushed (stream 0x99 5 (fresh c90)) frame90 ≡ stream 0x99 5 (fresh c90))
 unfolding pushed from_first from_second streamed reply_size_for answer bad push did run turns look judge restarts sum_right sum total after drops stay booked counted lost_for complete held_of untaken
 streams = (refl, refl, refl, refl)
 
 -- what is printed then: 7 before two bytes have come, 10, and else what the reader has
 pub prints :
-    (printed (came 0 0 0 none) ≡ word "refused 7\n")
-    × (printed (came 1 0x90 0 none) ≡ word "refused 7\n")
-    × (printed (came 2 0x99 0x90 none) ≡ word "refused 10\n")
-    × (printed (came 2 0x90 0 (fresh c90)) ≡ word "reply 90 taken 0 held 0 frames 0 discarded 0 cleared 0 noise 0 sum 0 command 0 number 0 echo 0\nrefused 1\n")
-unfolding printed reported joined status line field decimal hex2 answer_text frame_check len_check header_check checksum_check
+    (printed nothing ≡ word "refused 7\n")
+    × (printed (first 0x90) ≡ word "refused 7\n")
+    × (printed (stream 0x99 0x90 none) ≡ word "refused 10\n")
+    × (printed (stream 0x90 0 (fresh c90)) ≡ word "reply 90 taken 0 held 0 frames 0 discarded 0 cleared 0 noise 0 sum 0 command 0 number 0 echo 0\nrefused 1\n")
+unfolding printed reported joined status shown_field shown_line decimal hex2 answer_text frame_check len_check header_check checksum_check
 prints = (refl, refl, refl, refl)
+
+-- a tally of 7, as the reader's, and of none other length; before the stream there is none
+seven : HasSeven Nothing × HasSeven (Command 0x90) × HasSeven (Stream (record { command = 0x90; count = 5; counts = fresh_counts 0x90 1 false }))
+seven = (tt, tt, refl)
+
+abbrev tallied_by : List ℕ → Input
+tallied_by tally = Stream record { command = 0x90; count = 5; counts = record { command = 0x90; mark = false; strict = false; tally = tally; wanted = 1; collected = 0; held = 0 } }
+
+six : HasSeven (tallied_by (0 ∷ 0 ∷ 0 ∷ 0 ∷ 0 ∷ 0 ∷ [])) → ⊥
+six e = omega (arith, e)
+
+eight : HasSeven (tallied_by (0 ∷ 0 ∷ 0 ∷ 0 ∷ 0 ∷ 0 ∷ 0 ∷ 0 ∷ [])) → ⊥
+eight e = omega (arith, e)
 
 -- the counts line's numbers from the struct, each from its own
 pub tallied : tally_of (record { command = 0x95; mark = false; strict = false; tally = 9 ∷ 8 ∷ 1 ∷ 2 ∷ 3 ∷ 10 ∷ 7 ∷ []; wanted = 6; collected = 5; held = 4 })

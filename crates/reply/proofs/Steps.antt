@@ -3,22 +3,20 @@ use Rattle.std.specs.Prelude.{if◌then◌else◌}
 use mathlib.Core.Path.{◌≡◌, refl, sym, ap, ◌∙◌}
 use mathlib.Core.Bool.{Bool, true, false, cond}
 use mathlib.Core.List.{List, [], ◌∷◌}
-use Prim.Native.Nat.{ℕ, ◌*◌, ◌-◌, ◌≤◌, ◌<◌, min}
+use Prim.Native.Nat.{ℕ, ◌*◌, ◌≤◌, ◌<◌, min}
 use native.Mathlib.Omega.{arith}
 use lib.Dec.{ltb, eqb}
-use borrow.Author.Tests.{ltb-true, ltb-false, lt-ltb, le-ltb}
-use lib.ListN.{length, take, drop, get_or, length-drop}
+use borrow.Author.Tests.{ltb-true, ltb-false}
+use lib.ListN.{length, take, drop, get_or}
 use lib.Seq.{take_all}
-use Rattle.frame.specs.declared.Refusal.{Refusal}
-use Rattle.frame.specs.declared.Refusal.TheVariants.{RequestTooShort, UnknownCommand}
+use Rattle.frame.specs.declared.refusal.Refusal.{Refusal}
+use Rattle.frame.specs.declared.refusal.Refusal.TheVariants.{RequestTooShort}
 use Rattle.frame.specs.Refusals.{refusal_number}
 use Rattle.list.specs.Numbered.{reply_size}
 use Rattle.rules.specs.Reader.{Discards, Reader, Answer, all_of, joined, status, answer}
 use Rattle.reader.specs.View.{five_in, view, chop, Answered}
 use Rattle.reader.specs.declared.Counts.{Counts}
-use Rattle.reader.specs.Told.{fresh_counts}
 use Rattle.reader.proofs.Parts.{length-chop, length_front, joined-chop}
-use Rattle.reader.proofs.Promise.{view-fresh}
 use Rattle.text.specs.Words.{word}
 use Rattle.text.specs.Text.{Put, place}
 use Rattle.text.proofs.Long.{line-few}
@@ -26,65 +24,39 @@ use Rattle.report.specs.declared.Tally.{Tally}
 use Rattle.report.specs.Lines.{refusal_line}
 use Rattle.report.specs.Report.{report_text}
 use Rattle.report.proofs.Long.{report-few}
+use mathlib.Core.Logic.{◌⊎◌, inl, inr}
+use Rattle.reply.specs.declared.Question.{Question}
 use Rattle.reply.specs.declared.Input.{Input}
-use Rattle.reply.specs.Output.{known, reply_size_for, wanted_for, tally, reply_text, reported}
-use Rattle.reply.specs.Input.{State, state_of, streamed, from_second, from_first, pushed, printed, tally_of}
+use Rattle.reply.specs.declared.Input.TheVariants.{Nothing, Command}
+use Rattle.reply.specs.Output.{known, reply_size_for, tally, reply_text}
+use Rattle.reply.specs.Input.{nothing, first, stream, streamed, from_second, from_first, state_of, printed, tally_of}
 
 -- ---- the stream
 
-pub streamed_unknown : (st : State) (s : List ℕ) → known st.command ≡ false → streamed st s ≡ st
+pub streamed_unknown : (c n : ℕ) (r : Reader) (s : List ℕ) → known c ≡ false → stream c n r ≡ streamed c n r s
 unfolding streamed
-streamed_unknown st s e = rw e
+streamed_unknown c n r s e = rw e
 
 -- a push's answer, put back into the struct
-pub streamed-told : (i : Input) (f s : List ℕ) (status took : ℕ) (c' : Counts) (f' : List ℕ) → known i.command ≡ true
-    → Answered f i.counts s status took c' f'
-    → state_of (record { seen = i.seen; command = i.command; count = i.count; counts = c' }) f' ≡ streamed (state_of i f) s
-unfolding streamed state_of
-streamed-told i f s status took c' f' e a =
-    let r : view c' f' ≡ (answer (view i.counts f) s).reader = ap (λ (x : Answer). x.reader) a.by-rule in
-    rw e (λ k. record { seen = i.seen; command = i.command; count = i.count; reader = r k })
+pub streamed-told : (a : Question) (f s : List ℕ) (status took : ℕ) (c' : Counts) (f' : List ℕ) → known a.command ≡ true
+    → Answered f a.counts s status took c' f'
+    → stream a.command a.count (view c' f') ≡ streamed a.command a.count (view a.counts f) s
+unfolding streamed
+streamed-told a f s status took c' f' e p =
+    let r : view c' f' ≡ (answer (view a.counts f) s).reader = ap (λ (x : Answer). x.reader) p.by-rule in
+    rw e (ap (stream a.command a.count) r)
 
 -- ---- the first two bytes
 
-rest : (s : List ℕ) → take (length s - 1) (drop 1 s) ≡ drop 1 s
-rest s = take_all (length s - 1) (drop 1 s) (omega (arith, length-drop 1 s))
-
-pub second_none : (st : State) (s : List ℕ) → length s ≡ 0 → from_second st s ≡ st
+pub second-none : (c : ℕ) (s : List ℕ) → length s ≡ 0 → first c ≡ from_second c s
 unfolding from_second
-second_none st [] e = refl
-second_none st (x ∷ s) e = absurd (omega arith)
+second-none c [] e = refl
+second-none c (x ∷ s) e = absurd (omega arith)
 
-pub second_some : (i : Input) (f s : List ℕ) (k : Counts) → (length s ≡ 0 → ⊥) → k ≡ fresh_counts i.command (wanted_for i.command (get_or s 0 0)) false
-    → streamed (state_of (record { seen = 2; command = i.command; count = get_or s 0 0; counts = k }) f) (take (length s - 1) (drop 1 s))
-    ≡ from_second (state_of i f) s
-unfolding state_of from_second
-second_some i f [] k n e = absurd (n refl)
-second_some i f (x ∷ s) k n e = rw (rest (x ∷ s), e, view-fresh i.command (wanted_for i.command x) false f)
-
-pub first-none : (st : State) (s : List ℕ) → length s ≡ 0 → from_first st s ≡ st
+pub first-none : (s : List ℕ) → length s ≡ 0 → nothing ≡ from_first s
 unfolding from_first
-first-none st [] e = refl
-first-none st (x ∷ s) e = absurd (omega arith)
-
-pub first_some : (i : Input) (f s : List ℕ) → (length s ≡ 0 → ⊥)
-    → from_second (state_of (record { seen = 1; command = get_or s 0 0; count = i.count; counts = i.counts }) f) (take (length s - 1) (drop 1 s))
-    ≡ from_first (state_of i f) s
-unfolding state_of from_first
-first_some i f [] n = absurd (n refl)
-first_some i f (x ∷ s) n = rw (rest (x ∷ s))
-
-pub at_stream : (st : State) (s : List ℕ) → ltb 1 st.seen ≡ true → pushed st s ≡ streamed st s
-unfolding pushed
-at_stream st s e = rw e
-
-pub at_second : (st : State) (s : List ℕ) → st.seen ≡ 1 → pushed st s ≡ from_second st s
-unfolding pushed
-at_second st s e = rw e
-
-pub at_first : (st : State) (s : List ℕ) → ltb 1 st.seen ≡ false → eqb st.seen 1 ≡ false → pushed st s ≡ from_first st s
-unfolding pushed
-at_first st s e f = rw (e, f)
+first-none [] e = refl
+first-none (x ∷ s) e = absurd (omega arith)
 
 -- ---- the text
 
@@ -136,23 +108,17 @@ same-status c f = go c.mark
     go true = refl
     go false = refl
 
-pub reply-text : (i : Input) (f : List ℕ) (n : ℕ) (t : Tally) (st : ℕ) → length f ≡ 1105 → n ≡ min (13 * i.counts.collected) 1105 → t ≡ tally_of i.counts
+pub reply-text : (i : Question) (f : List ℕ) (n : ℕ) (t : Tally) (st : ℕ) → length f ≡ 1105 → n ≡ min (13 * i.counts.collected) 1105 → t ≡ tally_of i.counts
     → st ≡ cond i.counts.mark 2 0 → report_text i.command i.count t (take n f) st ≡ reply_text i.command i.count (view i.counts f)
 reply-text i f n t st h a b d =
     let bytes : take n f ≡ joined (view i.counts f).collected = ap (λ k. take k f) a ∙ view-bytes i.counts f h in
     λ k. report_text i.command i.count ((b ∙ sym (same-tally i.counts f)) k) (bytes k) ((d ∙ same-status i.counts f) k)
 
-pub printed_short : (st : State) → st.seen < 2 → printed st ≡ refusal_line RequestTooShort
-unfolding printed
-printed_short st h = rw (le-ltb 1 st.seen (omega arith))
-
-pub printed_unknown : (st : State) → 2 ≤ st.seen → known st.command ≡ false → printed st ≡ refusal_line UnknownCommand
-unfolding printed reported
-printed_unknown st h e = rw (lt-ltb 1 st.seen (omega arith), e)
-
-pub printed-known : (st : State) → 2 ≤ st.seen → known st.command ≡ true → printed st ≡ reply_text st.command st.count st.reader
-unfolding printed reported
-printed-known st h e = rw (lt-ltb 1 st.seen (omega arith), e)
+-- before two bytes have come
+pub printed_short : (i : Input) (f : List ℕ) → (i ≡ Nothing) ⊎ ((c : ℕ) × (i ≡ Command c)) → refusal_line RequestTooShort ≡ printed (state_of i f)
+unfolding printed state_of
+printed_short i f (inl e) = rw e
+printed_short i f (inr (c, e)) = rw e
 
 -- ---- 8,192 bytes hold every text
 
@@ -160,7 +126,7 @@ pub refusal-few : (r : Refusal) (out exit : List ℕ) (n : ℕ) → Put out 0 (r
 unfolding place
 refusal-few r out exit n p = omega (arith, p.ends, line-few (word "refused") (refusal_number r))
 
-pub reply-few : (i : Input) (f out exit : List ℕ) (n : ℕ) → i.count < 256 → Put out 0 (reply_text i.command i.count (view i.counts f)) exit n → n ≤ 8192
+pub reply-few : (i : Question) (f out exit : List ℕ) (n : ℕ) → i.count < 256 → Put out 0 (reply_text i.command i.count (view i.counts f)) exit n → n ≤ 8192
 unfolding place
 reply-few i f out exit n h p =
     let r : Reader = view i.counts f in

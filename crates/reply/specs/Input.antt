@@ -1,52 +1,62 @@
 -- The input's bytes as they come, in chunks: what stands after each, and that only the bytes decide. Definitions only.
-use Rattle.std.specs.Prelude.{ℕ, ◌≡◌, cond, false, List, [], ◌∷◌, ltb, eqb, get_or}
-use Rattle.frame.specs.declared.Refusal.TheVariants.{RequestTooShort}
+use Rattle.std.specs.Prelude.{ℕ, ◌≡◌, ⊤, cond, List, [], ◌∷◌, length, get_or}
+use Rattle.frame.specs.declared.refusal.Refusal.TheVariants.{RequestTooShort}
 use Rattle.rules.specs.Reader.{Discards, Reader, all_of, fresh, joined, answer}
 use Rattle.reader.specs.View.{five_in, view}
-use Rattle.reader.specs.Told.{fresh_counts}
 use Rattle.reader.specs.declared.Counts.{Counts}
 use Rattle.report.specs.declared.Tally.{Tally}
 use Rattle.report.specs.Lines.{refusal_line}
 use Rattle.reply.specs.declared.Input.{Input}
+use Rattle.reply.specs.declared.Input.TheVariants.{Nothing, Command, Stream}
 use Rattle.reply.specs.Output.{known, asked, reported, output_of}
 
--- how many of the first two bytes have come, these two, and the reader
-pub record State : Type 0 where
-  pub seen : ℕ
-  pub command : ℕ
-  pub count : ℕ
-  pub reader : Reader
+-- how far the input has come: nothing, its first byte, or its first two and the reader of what follows
+pub data State : Type 0 where
+  nothing : State
+  first : ℕ → State
+  stream : ℕ → ℕ → Reader → State
 
--- the struct and the frames that are lent beside it
+-- the enum and the frames that are lent beside it
 unfoldable pub state_of : Input → List ℕ → State
-state_of i f = record { seen = i.seen; command = i.command; count = i.count; reader = view i.counts f }
+state_of Nothing f = nothing
+state_of (Command c) f = first c
+state_of (Stream a) f = stream a.command a.count (view a.counts f)
+
+-- its tally has seven counts
+abbrev pub HasSeven : Input → Type 0
+HasSeven Nothing = ⊤
+HasSeven (Command c) = ⊤
+HasSeven (Stream a) = length a.counts.tally ≡ 7
 
 -- nothing has come yet
 abbrev pub begun : Input
-begun = record { seen = 0; command = 0; count = 0; counts = fresh_counts 0 0 false }
+begun = Nothing
 
 -- bytes behind the first two
-unfoldable pub streamed : State → List ℕ → State
-streamed st s =
-    cond (known st.command) (record { seen = st.seen; command = st.command; count = st.count; reader = (answer st.reader s).reader }) st
+unfoldable pub streamed : ℕ → ℕ → Reader → List ℕ → State
+streamed c n r s = stream c n (cond (known c) (answer r s).reader r)
 
 -- the second byte, and what follows
-unfoldable pub from_second : State → List ℕ → State
-from_second st [] = st
-from_second st (n ∷ s) = streamed (record { seen = 2; command = st.command; count = n; reader = fresh (asked st.command n) }) s
+unfoldable pub from_second : ℕ → List ℕ → State
+from_second c [] = first c
+from_second c (n ∷ s) = streamed c n (fresh (asked c n)) s
 
 -- the first byte, and what follows
-unfoldable pub from_first : State → List ℕ → State
-from_first st [] = st
-from_first st (c ∷ s) = from_second (record { seen = 1; command = c; count = st.count; reader = st.reader }) s
+unfoldable pub from_first : List ℕ → State
+from_first [] = nothing
+from_first (c ∷ s) = from_second c s
 
 -- the next bytes of the input, by how many have come
 unfoldable pub pushed : State → List ℕ → State
-pushed st s = cond (ltb 1 st.seen) (streamed st s) (cond (eqb st.seen 1) (from_second st s) (from_first st s))
+pushed nothing s = from_first s
+pushed (first c) s = from_second c s
+pushed (stream c n r) s = streamed c n r s
 
 -- what is printed when nothing more comes
 unfoldable pub printed : State → List ℕ
-printed st = cond (ltb 1 st.seen) (reported st.command st.count st.reader) (refusal_line RequestTooShort)
+printed nothing = refusal_line RequestTooShort
+printed (first c) = refusal_line RequestTooShort
+printed (stream c n r) = reported c n r
 
 -- the counts line's numbers, from the struct
 abbrev pub tally_of : Counts → Tally

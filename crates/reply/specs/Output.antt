@@ -1,6 +1,6 @@
 -- Document 01, `readreply`: what it prints, of the bytes of its input alone. Definitions only.
 use Rattle.std.specs.Prelude.{ℕ, Bool, false, cond, ◌&&◌, List, [], ◌∷◌, leb, eqb, length}
-use Rattle.frame.specs.declared.Refusal.TheVariants.{RequestTooShort, UnknownCommand}
+use Rattle.frame.specs.declared.refusal.Refusal.TheVariants.{RequestTooShort, UnknownCommand}
 use Rattle.list.specs.Numbered.{reply_size}
 use Rattle.rules.specs.Rules.{Config}
 use Rattle.rules.specs.Reader.{Reader, all_of, fresh, frames_of, joined, status, answer}

@@ -10,9 +10,8 @@ use Rattle.list.specs.Listed.{gate}
 use Rattle.list.specs.Numbered.{judge, judged}
 use Rattle.flags.specs.Faults.{faults}
 use Rattle.text.specs.Words.{word}
-use Rattle.text.specs.Text.{decimal, signed, hex2, field, line, signed_line}
+use Rattle.text.specs.Text.{decimal, signed, hex2, shown_field, shown_line}
 use Rattle.report.specs.declared.Tally.{Tally}
-use Rattle.report.specs.Lines.{flag_line}
 use Rattle.report.specs.Report.{counts_text, answer_text, report_text}
 
 -- the frame of P6, and what its reader counted: two bytes discarded before it
@@ -26,14 +25,14 @@ counted = record { taken = 15; held = 0; frames = 1; discarded = 2; cleared = 0;
 pub example :
     report_text 0x90 0 counted p6 0
     ≡ word "reply 90 taken 15 held 0 frames 1 discarded 2 cleared 0 noise 1 sum 1 command 0 number 0 echo 0\ntotal_voltage 523\ncurrent -121\nsoc_percent 874\n"
-unfolding total sum sum_of len_check header_check checksum_check frame_check decimal signed hex2 field line signed_line answer_text
+unfolding total sum sum_of len_check header_check checksum_check frame_check decimal signed hex2 shown_field shown_line answer_text
 example = refl
 
 -- (document 02, K3) each count behind its name, in this order
 pub counts-line :
     counts_text 0x95 (record { taken = 9; held = 8; frames = 7; discarded = 6; cleared = 5; noise = 4; sum = 3; command = 2; number = 1; echo = 10 })
     ≡ word "reply 95 taken 9 held 8 frames 7 discarded 6 cleared 5 noise 4 sum 3 command 2 number 1 echo 10\n"
-unfolding decimal hex2 field
+unfolding decimal hex2 shown_field
 counts-line = refl
 
 -- "With a 00 appended it is refused 3"; a status of 2 stands before any field; nothing collected is refused 1
@@ -49,7 +48,7 @@ pub refusals :
     ∷ word "reply 90 taken 15 held 0 frames 1 discarded 2 cleared 0 noise 1 sum 1 command 0 number 0 echo 0\nrefused 1\n"
     ∷ word "reply 99 taken 15 held 0 frames 1 discarded 2 cleared 0 noise 1 sum 1 command 0 number 0 echo 0\nrefused 10\n"
     ∷ [])
-unfolding total sum sum_of len_check header_check checksum_check frame_check decimal signed hex2 field line signed_line answer_text
+unfolding total sum sum_of len_check header_check checksum_check frame_check decimal signed hex2 shown_field shown_line answer_text
 refusals = refl
 
 -- the other replies, of the board's address
@@ -85,5 +84,5 @@ pub answers :
     -- P10
     ∷ word "fault 17\nfault 16\n"
     ∷ [])
-unfolding total sum summed frame sum_of len_check header_check checksum_check frame_check mosfet_check gate judge judged faults decimal signed line signed_line flag_line answer_text
+unfolding total sum summed frame sum_of len_check header_check checksum_check frame_check mosfet_check gate judge judged faults decimal signed shown_field shown_line answer_text
 answers = refl

@@ -9,19 +9,14 @@ use lib.IntN.{ℤ}
 use lib.ListN.{length, take, length-append}
 use Rattle.wire.specs.Lists.{firsts}
 use Rattle.wire.specs.Bytes.{byte_at, bit}
-use Rattle.frame.specs.declared.Check.{Check}
-use Rattle.frame.specs.declared.Check.TheVariants.{Sound, Refused}
-use Rattle.frame.specs.Refusals.{refusal_number}
-use Rattle.soc.specs.declared.SocCountsAnswer.{SocCountsAnswer}
-use Rattle.soc.specs.declared.SocCountsAnswer.TheVariants.{SocCountsGiven, SocCountsRefused}
-use Rattle.cell_voltage_range.specs.declared.CellVoltageRangeCountsAnswer.{CellVoltageRangeCountsAnswer}
-use Rattle.cell_voltage_range.specs.declared.CellVoltageRangeCountsAnswer.TheVariants.{CellVoltageRangeCountsGiven, CellVoltageRangeCountsRefused}
-use Rattle.temperature_range.specs.declared.TemperatureRangeAnswer.{TemperatureRangeAnswer}
-use Rattle.temperature_range.specs.declared.TemperatureRangeAnswer.TheVariants.{TemperatureRangeGiven, TemperatureRangeRefused}
-use Rattle.mosfet_status.specs.declared.MosfetStatusCountsAnswer.{MosfetStatusCountsAnswer}
-use Rattle.mosfet_status.specs.declared.MosfetStatusCountsAnswer.TheVariants.{MosfetStatusCountsGiven, MosfetStatusCountsRefused}
-use Rattle.status.specs.declared.StatusAnswer.{StatusAnswer}
-use Rattle.status.specs.declared.StatusAnswer.TheVariants.{StatusGiven, StatusRefused}
+use Rattle.std.specs.Prelude.{Result, Ok, Err}
+use Rattle.frame.specs.declared.refusal.Refusal.{Refusal}
+use Rattle.frame.specs.Refusals.{Check, refusal_number}
+use Rattle.soc.specs.Soc.{SocCounts}
+use Rattle.cell_voltage_range.specs.CellVoltageRange.{CellVoltageRangeCounts}
+use Rattle.temperature_range.specs.declared.TemperatureRange.{TemperatureRange}
+use Rattle.mosfet_status.specs.MosfetStatus.{MosfetStatusCounts}
+use Rattle.status.specs.declared.Status.{Status}
 use Rattle.soc.specs.Soc.{decoded_soc_counts}
 use Rattle.cell_voltage_range.specs.CellVoltageRange.{decoded_cell_voltage_range_counts}
 use Rattle.temperature_range.specs.TemperatureRange.{decoded_temperature_range}
@@ -32,11 +27,11 @@ use Rattle.wire.proofs.Firsts.{length-firsts}
 use Rattle.flags.specs.Balance.{flag_count, flag_at, balance_check}
 use Rattle.flags.specs.Faults.{Test, found, faults_by, fault_tests, faults, faults_check}
 use Rattle.text.specs.Words.{word}
-use Rattle.text.specs.Text.{Put, hex2, field, line, signed_line, newline}
+use Rattle.text.specs.Text.{Put, hex2, field, line, signed_line, newline, each}
 use Rattle.text.proofs.Putting.{put_whole}
 use Rattle.text.proofs.Long.{hex2-few, field-few, line-few, signed-line-few}
 use Rattle.report.specs.declared.Tally.{Tally}
-use Rattle.report.specs.Lines.{refused_line, flag_number, flag_line, each, list_text}
+use Rattle.report.specs.Lines.{refused_line, flag_number, flag_line, list_text}
 use Rattle.report.specs.Fields.{soc_text, cell_voltage_range_text, temperature_range_text, mosfet_status_text, status_text}
 use Rattle.report.specs.Lists.{cell_line, sensor_line, balance_line, fault_line, cells_text, sensors_text, balance_text, faults_text}
 use Rattle.report.specs.Report.{counts_middle, counts_text, answer_text, report_text}
@@ -60,7 +55,6 @@ named-signed : (w : List ℕ) (z : ℤ) → length w ≤ 19 → Few 42 (signed_l
 named-signed w z h = record { few = omega (arith, signed-line-few w z) }
 
 named-flag : (w : List ℕ) (b : Bool) → length w ≤ 19 → Few 42 (flag_line w b)
-unfolding flag_line
 named-flag w b h = named-line w (flag_number b) h
 
 refused-few : (n : ℕ) → Few 7395 (refused_line n)
@@ -73,20 +67,20 @@ module _ {A : Type 0} (f : A → List ℕ) (h : (v : A) → length (f v) ≤ 29)
   each-few (v ∷ vs) = omega (arith, h v, each-few vs, length-append (f v) (each f vs))
 
 list-few : (check : Check) (text : List ℕ) → length text ≤ 7395 → Few 7395 (list_text check text)
-list-few Sound text h = record { few = h }
-list-few (Refused r) text h = refused-few (refusal_number r)
+list-few (Ok given) text h = record { few = h }
+list-few (Err r) text h = refused-few (refusal_number r)
 
-soc-few : (a : SocCountsAnswer) → Few 7395 (soc_text a)
-soc-few (SocCountsGiven k) =
+soc-few : (a : Result SocCounts Refusal) → Few 7395 (soc_text a)
+soc-few (Ok k) =
     fewer 7395 (few-then
     (few-then
     (named-line (word "total_voltage") k.total_voltage (lit≤ tt))
     (named-signed (word "current") k.current (lit≤ tt)))
     (named-line (word "soc_percent") k.soc_percent (lit≤ tt))) (lit≤ tt)
-soc-few (SocCountsRefused r) = refused-few (refusal_number r)
+soc-few (Err r) = refused-few (refusal_number r)
 
-cell_voltage_range-few : (a : CellVoltageRangeCountsAnswer) → Few 7395 (cell_voltage_range_text a)
-cell_voltage_range-few (CellVoltageRangeCountsGiven k) =
+cell_voltage_range-few : (a : Result CellVoltageRangeCounts Refusal) → Few 7395 (cell_voltage_range_text a)
+cell_voltage_range-few (Ok k) =
     fewer 7395 (few-then
     (few-then
     (few-then
@@ -94,10 +88,10 @@ cell_voltage_range-few (CellVoltageRangeCountsGiven k) =
     (named-line (word "highest_cell") k.highest_cell (lit≤ tt)))
     (named-line (word "lowest_voltage") k.lowest_voltage (lit≤ tt)))
     (named-line (word "lowest_cell") k.lowest_cell (lit≤ tt))) (lit≤ tt)
-cell_voltage_range-few (CellVoltageRangeCountsRefused r) = refused-few (refusal_number r)
+cell_voltage_range-few (Err r) = refused-few (refusal_number r)
 
-temperature_range-few : (a : TemperatureRangeAnswer) → Few 7395 (temperature_range_text a)
-temperature_range-few (TemperatureRangeGiven k) =
+temperature_range-few : (a : Result TemperatureRange Refusal) → Few 7395 (temperature_range_text a)
+temperature_range-few (Ok k) =
     fewer 7395 (few-then
     (few-then
     (few-then
@@ -105,10 +99,10 @@ temperature_range-few (TemperatureRangeGiven k) =
     (named-line (word "highest_sensor") k.highest_sensor (lit≤ tt)))
     (named-signed (word "lowest_temperature") k.lowest_temperature (lit≤ tt)))
     (named-line (word "lowest_sensor") k.lowest_sensor (lit≤ tt))) (lit≤ tt)
-temperature_range-few (TemperatureRangeRefused r) = refused-few (refusal_number r)
+temperature_range-few (Err r) = refused-few (refusal_number r)
 
-mosfet_status-few : (a : MosfetStatusCountsAnswer) → Few 7395 (mosfet_status_text a)
-mosfet_status-few (MosfetStatusCountsGiven k) =
+mosfet_status-few : (a : Result MosfetStatusCounts Refusal) → Few 7395 (mosfet_status_text a)
+mosfet_status-few (Ok k) =
     fewer 7395 (few-then
     (few-then
     (few-then
@@ -118,15 +112,15 @@ mosfet_status-few (MosfetStatusCountsGiven k) =
     (named-flag (word "discharging_mosfet") k.discharging_mosfet (lit≤ tt)))
     (named-line (word "bms_cycles") k.bms_cycles (lit≤ tt)))
     (named-line (word "capacity_ah") k.capacity_ah (lit≤ tt))) (lit≤ tt)
-mosfet_status-few (MosfetStatusCountsRefused r) = refused-few (refusal_number r)
+mosfet_status-few (Err r) = refused-few (refusal_number r)
 
 -- four flags
 four-few : (a b c d : List ℕ) (w x y z : Bool) → length a ≤ 19 → length b ≤ 19 → length c ≤ 19 → length d ≤ 19 → Few 168 (flag_line a w ++ flag_line b x ++ flag_line c y ++ flag_line d z)
 four-few a b c d w x y z e f g h =
     few-then (few-then (few-then (named-flag a w e) (named-flag b x f)) (named-flag c y g)) (named-flag d z h)
 
-status-few : (a : StatusAnswer) → Few 7395 (status_text a)
-status-few (StatusGiven k) =
+status-few : (a : Result Status Refusal) → Few 7395 (status_text a)
+status-few (Ok k) =
     let front =
     few-then
     (few-then
@@ -138,7 +132,7 @@ status-few (StatusGiven k) =
     let inputs = four-few (word "di1") (word "di2") (word "di3") (word "di4") k.states.di1 k.states.di2 k.states.di3 k.states.di4 (lit≤ tt) (lit≤ tt) (lit≤ tt) (lit≤ tt) in
     let outputs = four-few (word "do1") (word "do2") (word "do3") (word "do4") k.states.do1 k.states.do2 k.states.do3 k.states.do4 (lit≤ tt) (lit≤ tt) (lit≤ tt) (lit≤ tt) in
     fewer 7395 (few-then (few-then front (few-then inputs outputs)) (named-line (word "cycles") k.cycles (lit≤ tt))) (lit≤ tt)
-status-few (StatusRefused r) = refused-few (refusal_number r)
+status-few (Err r) = refused-few (refusal_number r)
 
 cells-few : (s : List ℕ) (n : ℕ) → n < 256 → Few 7395 (cells_text s n)
 cells-few s n h =
@@ -157,7 +151,6 @@ sensors-few s n h =
     ))
 
 balance-line-few : (b : Bool) → length (balance_line b) ≤ 29
-unfolding flag_line
 balance-line-few b = line-few (word "balance") (flag_number b)
 
 balance-few : (s : List ℕ) (n : ℕ) → Few 7395 (balance_text s n)

@@ -1,25 +1,15 @@
 -- Document 01, `readreply`: the fields of the one-frame replies "in source order as whole wire units after offsets, or `refused N`". Definitions only.
-use Rattle.std.specs.Prelude.{ℕ, List, ◌++◌}
-use Rattle.soc.specs.declared.SocCounts.{SocCounts}
-use Rattle.soc.specs.declared.SocCountsAnswer.{SocCountsAnswer}
-use Rattle.soc.specs.declared.SocCountsAnswer.TheVariants.{SocCountsGiven, SocCountsRefused}
-use Rattle.cell_voltage_range.specs.declared.CellVoltageRangeCounts.{CellVoltageRangeCounts}
-use Rattle.cell_voltage_range.specs.declared.CellVoltageRangeCountsAnswer.{CellVoltageRangeCountsAnswer}
-use Rattle.cell_voltage_range.specs.declared.CellVoltageRangeCountsAnswer.TheVariants.{CellVoltageRangeCountsGiven, CellVoltageRangeCountsRefused}
+use Rattle.std.specs.Prelude.{ℕ, List, ◌++◌, Result}
+use Rattle.frame.specs.declared.refusal.Refusal.{Refusal}
+use Rattle.soc.specs.Soc.{SocCounts}
+use Rattle.cell_voltage_range.specs.CellVoltageRange.{CellVoltageRangeCounts}
 use Rattle.temperature_range.specs.declared.TemperatureRange.{TemperatureRange}
-use Rattle.temperature_range.specs.declared.TemperatureRangeAnswer.{TemperatureRangeAnswer}
-use Rattle.temperature_range.specs.declared.TemperatureRangeAnswer.TheVariants.{TemperatureRangeGiven, TemperatureRangeRefused}
-use Rattle.mosfet_status.specs.declared.MosfetStatusCounts.{MosfetStatusCounts}
-use Rattle.mosfet_status.specs.declared.MosfetStatusCountsAnswer.{MosfetStatusCountsAnswer}
-use Rattle.mosfet_status.specs.declared.MosfetStatusCountsAnswer.TheVariants.{MosfetStatusCountsGiven, MosfetStatusCountsRefused}
-use Rattle.mosfet_status.specs.MosfetStatus.{mode_number}
+use Rattle.mosfet_status.specs.MosfetStatus.{MosfetStatusCounts, mode_number}
 use Rattle.status.specs.declared.IOState.{IOState}
 use Rattle.status.specs.declared.Status.{Status}
-use Rattle.status.specs.declared.StatusAnswer.{StatusAnswer}
-use Rattle.status.specs.declared.StatusAnswer.TheVariants.{StatusGiven, StatusRefused}
 use Rattle.text.specs.Words.{word}
 use Rattle.text.specs.Text.{line, signed_line}
-use Rattle.report.specs.Lines.{refusal_line, flag_line}
+use Rattle.report.specs.Lines.{flag_line, told}
 
 -- 90
 abbrev pub soc_lines : SocCounts → List ℕ
@@ -28,9 +18,8 @@ soc_lines k =
     ++ signed_line (word "current") k.current
     ++ line (word "soc_percent") k.soc_percent
 
-abbrev pub soc_text : SocCountsAnswer → List ℕ
-soc_text (SocCountsGiven k) = soc_lines k
-soc_text (SocCountsRefused r) = refusal_line r
+abbrev pub soc_text : Result SocCounts Refusal → List ℕ
+soc_text = told soc_lines
 
 -- 91
 abbrev pub cell_voltage_range_lines : CellVoltageRangeCounts → List ℕ
@@ -40,9 +29,8 @@ cell_voltage_range_lines k =
     ++ line (word "lowest_voltage") k.lowest_voltage
     ++ line (word "lowest_cell") k.lowest_cell
 
-abbrev pub cell_voltage_range_text : CellVoltageRangeCountsAnswer → List ℕ
-cell_voltage_range_text (CellVoltageRangeCountsGiven k) = cell_voltage_range_lines k
-cell_voltage_range_text (CellVoltageRangeCountsRefused r) = refusal_line r
+abbrev pub cell_voltage_range_text : Result CellVoltageRangeCounts Refusal → List ℕ
+cell_voltage_range_text = told cell_voltage_range_lines
 
 -- 92
 abbrev pub temperature_range_lines : TemperatureRange → List ℕ
@@ -52,9 +40,8 @@ temperature_range_lines k =
     ++ signed_line (word "lowest_temperature") k.lowest_temperature
     ++ line (word "lowest_sensor") k.lowest_sensor
 
-abbrev pub temperature_range_text : TemperatureRangeAnswer → List ℕ
-temperature_range_text (TemperatureRangeGiven k) = temperature_range_lines k
-temperature_range_text (TemperatureRangeRefused r) = refusal_line r
+abbrev pub temperature_range_text : Result TemperatureRange Refusal → List ℕ
+temperature_range_text = told temperature_range_lines
 
 -- 93
 abbrev pub mosfet_status_lines : MosfetStatusCounts → List ℕ
@@ -65,9 +52,8 @@ mosfet_status_lines k =
     ++ line (word "bms_cycles") k.bms_cycles
     ++ line (word "capacity_ah") k.capacity_ah
 
-abbrev pub mosfet_status_text : MosfetStatusCountsAnswer → List ℕ
-mosfet_status_text (MosfetStatusCountsGiven k) = mosfet_status_lines k
-mosfet_status_text (MosfetStatusCountsRefused r) = refusal_line r
+abbrev pub mosfet_status_text : Result MosfetStatusCounts Refusal → List ℕ
+mosfet_status_text = told mosfet_status_lines
 
 -- 94: "`states` gives its eight flags as eight lines named `di1` to `do4`"
 abbrev pub input_lines : IOState → List ℕ
@@ -97,6 +83,5 @@ status_front k =
 abbrev pub status_lines : Status → List ℕ
 status_lines k = status_front k ++ states_lines k.states ++ line (word "cycles") k.cycles
 
-abbrev pub status_text : StatusAnswer → List ℕ
-status_text (StatusGiven k) = status_lines k
-status_text (StatusRefused r) = refusal_line r
+abbrev pub status_text : Result Status Refusal → List ℕ
+status_text = told status_lines

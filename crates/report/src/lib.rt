@@ -2,16 +2,20 @@
 #![tactic(auto)]
 
 ghost use Rattle.text.specs.Text.{Put};
-ghost use Rattle.report.specs.Lines.{refusal_line, flag_line};
-ghost use Rattle.report.specs.Report.{counts_head, counts_middle, counts_text, answer_text, report_text};
+ghost use Rattle.text.specs.Putting.{Puts};
+ghost use Rattle.report.specs.Lines.{refusal_line};
+ghost use Rattle.report.specs.Report.{counts_text, answer_text, report_text};
 
+use fields::put_reply;
 use frame::Refusal;
+use reading::{CellVoltageRangeCounts, MosfetStatusCounts, SocCounts, Status, TemperatureRange};
+use text::Text;
 
 mod fields;
 mod lists;
 
 // What a reader counted over the stream, the bytes it holds and the frames it has collected; then why bytes were discarded.
-#[derive(Clone, Copy)]
+#[derive(Clone, Copy, Debug, PartialEq, Eq)]
 pub struct Tally {
     pub taken: u32,
     pub held: usize,
@@ -25,73 +29,54 @@ pub struct Tally {
     pub echo: u32,
 }
 
-pub(crate) fn put_refusal(out: &mut [u8], at: usize, refusal: Refusal) -> usize
-    ensures { Put out.old at (refusal_line refusal) out.new result }
-{
-    text::put_line(out, at, b"refused", refusal.number() as u64)
-}
-
-pub(crate) fn put_flag_line(out: &mut [u8], at: usize, name: &[u8], flag: bool) -> usize
-    ensures { Put out.old at (flag_line name.now flag) out.new result }
-{
-    if flag {
-        return text::put_line(out, at, name, 1);
+impl Tally {
+    // The line of counts.
+    fn put(self, text: &mut Text, command: u8)
+        ensures { Puts text.old (counts_text command self) text.new }
+    {
+        text.put_word(b"reply ");
+        text.put_hex2(command);
+        text.put_field(b" taken", self.taken);
+        text.put_field(b" held", self.held);
+        text.put_field(b" frames", self.frames);
+        text.put_field(b" discarded", self.discarded);
+        text.put_field(b" cleared", self.cleared);
+        text.put_field(b" noise", self.noise);
+        text.put_field(b" sum", self.sum);
+        text.put_field(b" command", self.command);
+        text.put_field(b" number", self.number);
+        text.put_field(b" echo", self.echo);
+        text.put_byte(b'\n');
     }
-    text::put_line(out, at, name, 0)
 }
 
-// The counts line as far as the bytes held.
-fn put_head(out: &mut [u8], command: u8, tally: Tally) -> usize
-    ensures { Put out.old 0 (counts_head command tally) out.new result }
+pub(crate) fn put_refusal(text: &mut Text, refusal: Refusal)
+    ensures { Puts text.old (refusal_line refusal) text.new }
 {
-    let next = text::put_word(out, 0, b"reply ");
-    let next = text::put_hex2(out, next, command);
-    let next = text::put_field(out, next, b" taken", tally.taken as u64);
-    text::put_field(out, next, b" held", tally.held as u64)
+    text.put_line(b"refused", u8::from(refusal));
 }
 
-// And as far as the frames cleared.
-fn put_middle(out: &mut [u8], command: u8, tally: Tally) -> usize
-    ensures { Put out.old 0 (counts_middle command tally) out.new result }
-{
-    let next = put_head(out, command, tally);
-    let next = text::put_field(out, next, b" frames", tally.frames as u64);
-    let next = text::put_field(out, next, b" discarded", tally.discarded as u64);
-    text::put_field(out, next, b" cleared", tally.cleared as u64)
-}
-
-fn put_counts(out: &mut [u8], command: u8, tally: Tally) -> usize
-    ensures { Put out.old 0 (counts_text command tally) out.new result }
-{
-    let next = put_middle(out, command, tally);
-    let next = text::put_field(out, next, b" noise", tally.noise as u64);
-    let next = text::put_field(out, next, b" sum", tally.sum as u64);
-    let next = text::put_field(out, next, b" command", tally.command as u64);
-    let next = text::put_field(out, next, b" number", tally.number as u64);
-    let next = text::put_field(out, next, b" echo", tally.echo as u64);
-    text::put_byte(out, next, b'\n')
-}
-
-// What the decoder of the command answers on the reply.
-fn put_answer(out: &mut [u8], at: usize, command: u8, count: u8, reply: &[u8]) -> usize
-    ensures { Put out.old at (answer_text command count reply.now) out.new result }
+// What the decoder of the command answers on the reply. A `match`: a table of functions would need one form for all, and three alone take a count.
+fn put_answer(text: &mut Text, command: u8, count: u8, reply: &[u8])
+    ensures { Puts text.old (answer_text command count reply.now) text.new }
 {
     match command {
-        frame::command::SOC => fields::put_soc(out, at, reply),
-        frame::command::CELL_VOLTAGE_RANGE => fields::put_cell_voltage_range(out, at, reply),
-        frame::command::TEMPERATURE_RANGE => fields::put_temperature_range(out, at, reply),
-        frame::command::MOSFET_STATUS => fields::put_mosfet_status(out, at, reply),
-        frame::command::STATUS => fields::put_status(out, at, reply),
-        frame::command::CELL_VOLTAGES => lists::put_cells(out, at, reply, count),
-        frame::command::CELL_TEMPERATURES => lists::put_sensors(out, at, reply, count),
-        frame::command::CELL_BALANCE_STATE => lists::put_balance(out, at, reply, count),
-        frame::command::ERROR_CODE => lists::put_faults(out, at, reply),
-        _ => put_refusal(out, at, Refusal::UnknownCommand),
+        frame::command::SOC => put_reply::<SocCounts>(text, reply),
+        frame::command::CELL_VOLTAGE_RANGE => put_reply::<CellVoltageRangeCounts>(text, reply),
+        frame::command::TEMPERATURE_RANGE => put_reply::<TemperatureRange>(text, reply),
+        frame::command::MOSFET_STATUS => put_reply::<MosfetStatusCounts>(text, reply),
+        frame::command::STATUS => put_reply::<Status>(text, reply),
+        frame::command::CELL_VOLTAGES => lists::put_cells(text, reply, count),
+        frame::command::CELL_TEMPERATURES => lists::put_sensors(text, reply, count),
+        frame::command::CELL_BALANCE_STATE => lists::put_balance(text, reply, count),
+        frame::command::ERROR_CODE => lists::put_faults(text, reply),
+        _ => put_refusal(text, Refusal::UnknownCommand),
     }
 }
 
-// `reply` is what the reader has collected, `status` what its last push said. Past the buffer's end nothing is written; the answer
-// is the whole text's length.
+// `reply` is what the reader has collected, `status` what its last push said: 2, or any other number. Past the buffer's end nothing
+// is written; the answer is the whole text's length. Both are bare numbers, since the clause is of every status and of a text that
+// `out` cuts, of which the length alone tells the rest.
 pub fn report(
     command: u8,
     count: u8,
@@ -102,9 +87,12 @@ pub fn report(
 ) -> usize
     ensures { Put out.old 0 (report_text command count tally reply.now status) out.new result }
 {
-    let next = put_counts(out, command, tally);
-    if status == 2 {
-        return put_refusal(out, next, Refusal::UnexpectedFrame);
+    let mut text = Text { out, at: 0 };
+    tally.put(&mut text, command);
+    if status == u8::from(Refusal::UnexpectedFrame) {
+        put_refusal(&mut text, Refusal::UnexpectedFrame);
+    } else {
+        put_answer(&mut text, command, count, reply);
     }
-    put_answer(out, next, command, count, reply)
+    text.at
 }

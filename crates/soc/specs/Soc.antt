@@ -1,15 +1,18 @@
 -- Document 01, module 3: the 90 reply. Definitions only.
-use Rattle.std.specs.Prelude.{ℕ, List, pos}
+use Rattle.std.specs.Prelude.{ℕ, ℤ, List, pos, Float, Result, Ok, Err}
 use Rattle.wire.specs.Bytes.{count2}
+use Rattle.frame.specs.declared.refusal.Refusal.{Refusal}
 use Rattle.frame.specs.Checks.{frame_check}
 use Rattle.units.specs.Floats.{tenths, current_count}
 use Rattle.frame.specs.Reply.{answer}
-use Rattle.soc.specs.declared.SocCounts.{SocCounts}
 use Rattle.soc.specs.declared.Soc.{Soc}
-use Rattle.soc.specs.declared.SocCountsAnswer.{SocCountsAnswer}
-use Rattle.soc.specs.declared.SocCountsAnswer.TheVariants.{SocCountsGiven, SocCountsRefused}
-use Rattle.soc.specs.declared.SocAnswer.{SocAnswer}
-use Rattle.soc.specs.declared.SocAnswer.TheVariants.{SocGiven, SocRefused}
+
+-- antt has no name for an alias
+abbrev pub SocCounts : Type 0
+SocCounts = Soc ℕ ℤ
+
+abbrev pub SocRecord : Type 0
+SocRecord = Soc Float Float
 
 -- "Two-byte counts are high byte first"; the current's is "count − 30000"; "Bytes 6 and 7 of a 90 reply are ignored"
 abbrev pub soc_counts : List ℕ → SocCounts
@@ -20,7 +23,7 @@ soc_counts s = record {
 }
 
 -- "tenths are the count divided by 10.0"; "Current is (count − 30000) / 10.0"
-abbrev pub soc_of : SocCounts → Soc
+abbrev pub soc_of : SocCounts → SocRecord
 soc_of k = record {
   total_voltage = tenths (pos k.total_voltage);
   current = tenths k.current;
@@ -28,13 +31,13 @@ soc_of k = record {
 }
 
 -- refusals 1, 2, 3 of the frame check, else the counts
-abbrev pub decoded_soc_counts : List ℕ → SocCountsAnswer
-decoded_soc_counts s = answer SocCountsGiven SocCountsRefused (frame_check 0x90 s) (soc_counts s)
+abbrev pub decoded_soc_counts : List ℕ → Result SocCounts Refusal
+decoded_soc_counts s = answer (frame_check 0x90 s) (soc_counts s)
 
 -- the record of the counts; a refusal stays
-abbrev pub soc_answer : SocCountsAnswer → SocAnswer
-soc_answer (SocCountsGiven k) = SocGiven (soc_of k)
-soc_answer (SocCountsRefused r) = SocRefused r
+abbrev pub soc_answer : Result SocCounts Refusal → Result SocRecord Refusal
+soc_answer (Ok k) = Ok (soc_of k)
+soc_answer (Err r) = Err r
 
-abbrev pub decoded_soc : List ℕ → SocAnswer
+abbrev pub decoded_soc : List ℕ → Result SocRecord Refusal
 decoded_soc s = soc_answer (decoded_soc_counts s)

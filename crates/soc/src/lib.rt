@@ -1,77 +1,64 @@
 // 90: total voltage, current and state of charge.
 #![tactic(auto)]
 
-ghost use Rattle.std.specs.Prelude.{◌≡◌, ◌≤◌, length};
-ghost use Rattle.soc.specs.Soc.{soc_counts, soc_of, decoded_soc_counts, decoded_soc};
+ghost use Rattle.std.specs.Prelude.{◌≡◌};
+ghost use Rattle.soc.specs.Soc.{soc_of, decoded_soc_counts, decoded_soc};
 
-use frame::{Check, Refusal};
+use frame::{Refusal, Reply, command, sound_frame};
+
+// In volts, amperes and percent; of other numbers what its alias says.
+#[derive(Clone, Copy, Debug, PartialEq, Eq)]
+pub struct Soc<V = f32, I = V> {
+    pub total_voltage: V,
+    pub current: I,
+    pub soc_percent: V,
+}
 
 // Tenths of a volt, of an ampere and of a percent.
-#[derive(Clone, Copy)]
-pub struct SocCounts {
-    pub total_voltage: u16,
-    pub current: i32,
-    pub soc_percent: u16,
-}
+pub type SocCounts = Soc<u16, i32>;
 
-#[derive(Clone, Copy)]
-pub struct Soc {
-    pub total_voltage: f32,
-    pub current: f32,
-    pub soc_percent: f32,
-}
+impl From<SocCounts> for Soc {
+    ghost from_gives = { λ counts soc. soc ≡ soc_of counts };
 
-#[derive(Clone, Copy)]
-pub enum SocCountsAnswer {
-    SocCountsGiven(SocCounts),
-    SocCountsRefused(Refusal),
-}
-
-#[derive(Clone, Copy)]
-pub enum SocAnswer {
-    SocGiven(Soc),
-    SocRefused(Refusal),
-}
-
-impl SocCounts {
-    fn read(rx_buffer: &[u8]) -> Self
-        requires { 13 ≤ length rx_buffer.now }
-        ensures { result ≡ soc_counts rx_buffer.now }
-    {
+    fn from(counts: SocCounts) -> Self {
         Self {
-            total_voltage: wire::two_bytes(rx_buffer[4], rx_buffer[5]),
-            current: units::current_count(wire::two_bytes(rx_buffer[8], rx_buffer[9])),
-            soc_percent: wire::two_bytes(rx_buffer[10], rx_buffer[11]),
-        }
-    }
-
-    pub fn decode(rx_buffer: &[u8]) -> SocCountsAnswer
-        ensures { result ≡ decoded_soc_counts rx_buffer.now }
-    {
-        match frame::reply_check(rx_buffer, frame::command::SOC) {
-            Check::Refused(refusal) => SocCountsAnswer::SocCountsRefused(refusal),
-            Check::Sound => SocCountsAnswer::SocCountsGiven(Self::read(rx_buffer)),
-        }
-    }
-
-    pub fn record(self) -> Soc
-        ensures { result ≡ soc_of self }
-    {
-        Soc {
-            total_voltage: units::tenths_u16(self.total_voltage),
-            current: units::tenths_i32(self.current),
-            soc_percent: units::tenths_u16(self.soc_percent),
+            total_voltage: units::tenths_u16(counts.total_voltage),
+            current: units::tenths_i32(counts.current),
+            soc_percent: units::tenths_u16(counts.soc_percent),
         }
     }
 }
 
-impl Soc {
-    pub fn decode(rx_buffer: &[u8]) -> SocAnswer
-        ensures { result ≡ decoded_soc rx_buffer.now }
-    {
-        match SocCounts::decode(rx_buffer) {
-            SocCountsAnswer::SocCountsRefused(refusal) => SocAnswer::SocRefused(refusal),
-            SocCountsAnswer::SocCountsGiven(counts) => SocAnswer::SocGiven(counts.record()),
-        }
+impl Reply for SocCounts {
+    const COMMAND: u8 = command::SOC;
+
+    ghost COMMAND = { 0x90 };
+
+    ghost decoded = { decoded_soc_counts };
+
+    ghost refuses = { λ s r e. rw e };
+
+    fn decode(rx_buffer: &[u8]) -> Result<Self, Refusal> {
+        let frame = sound_frame(rx_buffer, Self::COMMAND)?;
+        Ok(Self {
+            total_voltage: wire::two_bytes(frame[4], frame[5]),
+            current: units::current_count(wire::two_bytes(frame[8], frame[9])),
+            soc_percent: wire::two_bytes(frame[10], frame[11]),
+        })
+    }
+}
+
+impl Reply for Soc {
+    const COMMAND: u8 = command::SOC;
+
+    ghost COMMAND = { 0x90 };
+
+    ghost decoded = { decoded_soc };
+
+    ghost refuses = { λ s r e. rw e };
+
+    // As in the other records made of counts: one function for all three would be a trait more for this one line.
+    fn decode(rx_buffer: &[u8]) -> Result<Self, Refusal> {
+        SocCounts::decode(rx_buffer).map(Self::from)
     }
 }

@@ -1,13 +1,13 @@
 -- A 94 reply as the Rust reads it, and each input and output by its bit. Assumes nothing.
 use Prim.Native.Nat.{ℕ}
+use Rattle.std.proofs.Common.{Ok, Err}
 use mathlib.Core.Path.{◌≡◌, refl}
 use mathlib.Core.Bool.{Bool, true, false}
 use mathlib.Core.List.{List, [], ◌∷◌, map}
-use Rattle.frame.specs.declared.Refusal.TheVariants.{CheckSumError}
+use Rattle.frame.specs.declared.refusal.Refusal.TheVariants.{CheckSumError}
 use Rattle.frame.specs.Frame.{total, sum, summed, frame}
 use Rattle.frame.specs.Checks.{sum_of, len_check, header_check, checksum_check, frame_check}
 use Rattle.status.specs.declared.IOState.{IOState}
-use Rattle.status.specs.declared.StatusAnswer.TheVariants.{StatusGiven, StatusRefused}
 use Rattle.status.specs.Status.{io_state, decoded_status}
 
 -- the eight flags in document 01's order
@@ -36,9 +36,9 @@ replies : map decoded_status
     ∷ frame 1 0x94 (16 ∷ 4 ∷ 0 ∷ 2 ∷ 0 ∷ 1 ∷ 3 ∷ 0 ∷ [])
     ∷ (0xA5 ∷ 0x01 ∷ 0x94 ∷ 0x08 ∷ 0 ∷ 0 ∷ 0 ∷ 0 ∷ 0 ∷ 0 ∷ 0 ∷ 0 ∷ 0 ∷ [])
     ∷ [])
-    ≡ StatusGiven (record { cells = 16; temperature_sensors = 4; charger_running = true; load_running = false; states = none; cycles = 259 })
-    ∷ StatusGiven (record { cells = 16; temperature_sensors = 4; charger_running = false; load_running = true; states = none; cycles = 259 })
-    ∷ StatusRefused CheckSumError
+    ≡ Ok (record { cells = 16; temperature_sensors = 4; charger_running = true; load_running = false; states = none; cycles = 259 })
+    ∷ Ok (record { cells = 16; temperature_sensors = 4; charger_running = false; load_running = true; states = none; cycles = 259 })
+    ∷ Err CheckSumError
     ∷ []
 unfolding total sum summed frame sum_of len_check header_check checksum_check frame_check
 replies = refl

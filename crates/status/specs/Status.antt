@@ -1,12 +1,11 @@
 -- Document 01, module 3: the 94 reply. Definitions only.
-use Rattle.std.specs.Prelude.{ℕ, List}
+use Rattle.std.specs.Prelude.{ℕ, List, Result}
 use Rattle.wire.specs.Bytes.{byte_at, count2, bit}
+use Rattle.frame.specs.declared.refusal.Refusal.{Refusal}
 use Rattle.frame.specs.Checks.{frame_check}
 use Rattle.frame.specs.Reply.{answer, flag}
 use Rattle.status.specs.declared.IOState.{IOState}
 use Rattle.status.specs.declared.Status.{Status}
-use Rattle.status.specs.declared.StatusAnswer.{StatusAnswer}
-use Rattle.status.specs.declared.StatusAnswer.TheVariants.{StatusGiven, StatusRefused}
 
 -- "`states` gives its eight flags .. `di1` to `do4`": the bits of a byte, the lowest first
 abbrev pub io_state : ℕ → IOState
@@ -33,5 +32,5 @@ status_of s = record {
 }
 
 -- refusals 1, 2, 3 of the frame check, else the record
-abbrev pub decoded_status : List ℕ → StatusAnswer
-decoded_status s = answer StatusGiven StatusRefused (frame_check 0x94 s) (status_of s)
+abbrev pub decoded_status : List ℕ → Result Status Refusal
+decoded_status s = answer (frame_check 0x94 s) (status_of s)

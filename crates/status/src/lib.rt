@@ -1,12 +1,12 @@
 // 94: how many cells and sensors there are, what runs, and the inputs and outputs.
 #![tactic(auto)]
 
-ghost use Rattle.std.specs.Prelude.{◌≡◌, ◌≤◌, length};
-ghost use Rattle.status.specs.Status.{io_state, status_of, decoded_status};
+ghost use Rattle.std.specs.Prelude.{◌≡◌};
+ghost use Rattle.status.specs.Status.{io_state, decoded_status};
 
-use frame::{Check, Refusal};
+use frame::{Refusal, Reply, command, sound_frame};
 
-#[derive(Clone, Copy)]
+#[derive(Clone, Copy, Debug, PartialEq, Eq)]
 pub struct IOState {
     pub di1: bool,
     pub di2: bool,
@@ -18,7 +18,7 @@ pub struct IOState {
     pub do4: bool,
 }
 
-#[derive(Clone, Copy)]
+#[derive(Clone, Copy, Debug, PartialEq, Eq)]
 pub struct Status {
     pub cells: u8,
     pub temperature_sensors: u8,
@@ -28,16 +28,10 @@ pub struct Status {
     pub cycles: u16,
 }
 
-#[derive(Clone, Copy)]
-pub enum StatusAnswer {
-    StatusGiven(Status),
-    StatusRefused(Refusal),
-}
+impl From<u8> for IOState {
+    ghost from_gives = { λ byte states. states ≡ io_state byte };
 
-impl IOState {
-    fn read(byte: u8) -> Self
-        ensures { result ≡ io_state byte }
-    {
+    fn from(byte: u8) -> Self {
         Self {
             di1: wire::read_bit(byte, 0),
             di2: wire::read_bit(byte, 1),
@@ -51,27 +45,24 @@ impl IOState {
     }
 }
 
-impl Status {
-    fn read(rx_buffer: &[u8]) -> Self
-        requires { 13 ≤ length rx_buffer.now }
-        ensures { result ≡ status_of rx_buffer.now }
-    {
-        Self {
-            cells: rx_buffer[4],
-            temperature_sensors: rx_buffer[5],
-            charger_running: rx_buffer[6] != 0,
-            load_running: rx_buffer[7] != 0,
-            states: IOState::read(rx_buffer[8]),
-            cycles: wire::two_bytes(rx_buffer[9], rx_buffer[10]),
-        }
-    }
+impl Reply for Status {
+    const COMMAND: u8 = command::STATUS;
 
-    pub fn decode(rx_buffer: &[u8]) -> StatusAnswer
-        ensures { result ≡ decoded_status rx_buffer.now }
-    {
-        match frame::reply_check(rx_buffer, frame::command::STATUS) {
-            Check::Refused(refusal) => StatusAnswer::StatusRefused(refusal),
-            Check::Sound => StatusAnswer::StatusGiven(Self::read(rx_buffer)),
-        }
+    ghost COMMAND = { 0x94 };
+
+    ghost decoded = { decoded_status };
+
+    ghost refuses = { λ s r e. rw e };
+
+    fn decode(rx_buffer: &[u8]) -> Result<Self, Refusal> {
+        let frame = sound_frame(rx_buffer, Self::COMMAND)?;
+        Ok(Self {
+            cells: frame[4],
+            temperature_sensors: frame[5],
+            charger_running: frame[6] != 0,
+            load_running: frame[7] != 0,
+            states: frame[8].into(),
+            cycles: wire::two_bytes(frame[9], frame[10]),
+        })
     }
 }

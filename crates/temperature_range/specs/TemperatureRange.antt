@@ -1,11 +1,10 @@
 -- Document 01, module 3: the 92 reply. Definitions only.
-use Rattle.std.specs.Prelude.{ℕ, ◌+◌, ◌-◌, ◌%◌, cond, List, ℤ, pos, ◌-ℤ◌, nat_lt}
+use Rattle.std.specs.Prelude.{ℕ, ◌+◌, ◌-◌, ◌%◌, cond, List, ℤ, pos, ◌-ℤ◌, nat_lt, Result}
 use Rattle.wire.specs.Bytes.{byte_at}
+use Rattle.frame.specs.declared.refusal.Refusal.{Refusal}
 use Rattle.frame.specs.Checks.{frame_check}
 use Rattle.frame.specs.Reply.{answer}
 use Rattle.temperature_range.specs.declared.TemperatureRange.{TemperatureRange}
-use Rattle.temperature_range.specs.declared.TemperatureRangeAnswer.{TemperatureRangeAnswer}
-use Rattle.temperature_range.specs.declared.TemperatureRangeAnswer.TheVariants.{TemperatureRangeGiven, TemperatureRangeRefused}
 
 -- "byte − 40 modulo 256", with 256 added first so that nothing falls below 0
 abbrev pub less40 : ℕ → ℕ
@@ -28,5 +27,5 @@ temperature_range s = record {
 }
 
 -- refusals 1, 2, 3 of the frame check, else the record
-abbrev pub decoded_temperature_range : List ℕ → TemperatureRangeAnswer
-decoded_temperature_range s = answer TemperatureRangeGiven TemperatureRangeRefused (frame_check 0x92 s) (temperature_range s)
+abbrev pub decoded_temperature_range : List ℕ → Result TemperatureRange Refusal
+decoded_temperature_range s = answer (frame_check 0x92 s) (temperature_range s)

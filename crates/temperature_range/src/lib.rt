@@ -1,13 +1,13 @@
 // 92: the highest and the lowest temperature, and which sensors have them.
 #![tactic(auto)]
 
-ghost use Rattle.std.specs.Prelude.{◌≡◌, ◌≤◌, length};
-ghost use Rattle.temperature_range.specs.TemperatureRange.{as_i8, temperature_of, temperature_range, decoded_temperature_range};
+ghost use Rattle.std.specs.Prelude.{◌≡◌};
+ghost use Rattle.temperature_range.specs.TemperatureRange.{temperature_of, decoded_temperature_range};
 
-use frame::{Check, Refusal};
+use frame::{Refusal, Reply, command, sound_frame};
 
 // Degrees.
-#[derive(Clone, Copy)]
+#[derive(Clone, Copy, Debug, PartialEq, Eq)]
 pub struct TemperatureRange {
     pub highest_temperature: i8,
     pub highest_sensor: u8,
@@ -15,47 +15,29 @@ pub struct TemperatureRange {
     pub lowest_sensor: u8,
 }
 
-#[derive(Clone, Copy)]
-pub enum TemperatureRangeAnswer {
-    TemperatureRangeGiven(TemperatureRange),
-    TemperatureRangeRefused(Refusal),
-}
-
-// A byte read as `i8`: below 128 itself, else less 256.
-fn as_i8(byte: u8) -> i8
-    ensures { result ≡ as_i8 byte }
-{
-    if byte < 128 {
-        return byte as i8;
-    }
-    ((byte as i32) - 256) as i8
-}
-
+// The byte that the bench makes of a temperature is this one's inverse, and no twin.
 fn temperature(byte: u8) -> i8
     ensures { result ≡ temperature_of byte }
 {
-    as_i8(std::num::wrapping_sub_u8(byte, 40))
+    byte.wrapping_sub(40).cast_signed()
 }
 
-impl TemperatureRange {
-    fn read(rx_buffer: &[u8]) -> Self
-        requires { 13 ≤ length rx_buffer.now }
-        ensures { result ≡ temperature_range rx_buffer.now }
-    {
-        Self {
-            highest_temperature: temperature(rx_buffer[4]),
-            highest_sensor: rx_buffer[5],
-            lowest_temperature: temperature(rx_buffer[6]),
-            lowest_sensor: rx_buffer[7],
-        }
-    }
+impl Reply for TemperatureRange {
+    const COMMAND: u8 = command::TEMPERATURE_RANGE;
 
-    pub fn decode(rx_buffer: &[u8]) -> TemperatureRangeAnswer
-        ensures { result ≡ decoded_temperature_range rx_buffer.now }
-    {
-        match frame::reply_check(rx_buffer, frame::command::TEMPERATURE_RANGE) {
-            Check::Refused(refusal) => TemperatureRangeAnswer::TemperatureRangeRefused(refusal),
-            Check::Sound => TemperatureRangeAnswer::TemperatureRangeGiven(Self::read(rx_buffer)),
-        }
+    ghost COMMAND = { 0x92 };
+
+    ghost decoded = { decoded_temperature_range };
+
+    ghost refuses = { λ s r e. rw e };
+
+    fn decode(rx_buffer: &[u8]) -> Result<Self, Refusal> {
+        let frame = sound_frame(rx_buffer, Self::COMMAND)?;
+        Ok(Self {
+            highest_temperature: temperature(frame[4]),
+            highest_sensor: frame[5],
+            lowest_temperature: temperature(frame[6]),
+            lowest_sensor: frame[7],
+        })
     }
 }

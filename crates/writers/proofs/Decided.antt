@@ -1,6 +1,9 @@
 -- Each contract of the crate allows one answer, and one exit of the lent bytes. Assumes nothing.
-use Rattle.wire.proofs.Decides.{Decides, both}
+use Rattle.wire.proofs.Decides.{Decides, same, both}
 use Rattle.list.proofs.Told.{tells_one}
+use Rattle.writers.proofs.replies.CellVoltageRangeCountsFromCellVoltageRangeWire.from.Reads as cell_voltage_range_meant
+use Rattle.writers.proofs.replies.TemperatureRangeFromTemperatureRangeWire.from.Reads as temperature_range_meant
+use Rattle.writers.proofs.replies.StatusFromStatusWire.from.Reads as status_meant
 use Rattle.writers.proofs.replies.daly_write_soc.Reads as daly_write_soc
 use Rattle.writers.proofs.replies.daly_write_cell_voltage_range.Reads as daly_write_cell_voltage_range
 use Rattle.writers.proofs.replies.daly_write_temperature_range.Reads as daly_write_temperature_range
@@ -13,6 +16,16 @@ use Rattle.writers.proofs.lists.daly_write_cell_voltages.Reads as daly_write_cel
 use Rattle.writers.proofs.lists.daly_write_cell_temperatures.Reads as daly_write_cell_temperatures
 use Rattle.writers.proofs.lists.daly_write_cell_balance_state.Reads as daly_write_cell_balance_state
 use Rattle.writers.proofs.lists.daly_write_error_codes.Reads as daly_write_error_codes
+
+-- what C's struct means
+cell_voltage_range_meant-decides : Decides cell_voltage_range_meant.Post (λ κs r s. r)
+cell_voltage_range_meant-decides κs a x y s t = same
+
+temperature_range_meant-decides : Decides temperature_range_meant.Post (λ κs r s. r)
+temperature_range_meant-decides κs a x y s t = same
+
+status_meant-decides : Decides status_meant.Post (λ κs r s. r)
+status_meant-decides κs a x y s t = same
 
 -- the answer, and the lent bytes (the last parameter) at exit
 daly_write_soc-decides : Decides daly_write_soc.Post (λ κs r s. both r s.1.1.0.now)

@@ -1,5 +1,5 @@
 -- What a struct of C means where the decoders' record has another layout: that record, field by field. Definitions only.
-use Rattle.cell_voltage_range.specs.declared.CellVoltageRangeCounts.{CellVoltageRangeCounts}
+use Rattle.cell_voltage_range.specs.CellVoltageRange.{CellVoltageRangeCounts}
 use Rattle.temperature_range.specs.declared.TemperatureRange.{TemperatureRange}
 use Rattle.status.specs.declared.Status.{Status}
 use Rattle.writers.specs.declared.replies.CellVoltageRangeWire.{CellVoltageRangeWire}

@@ -5,19 +5,19 @@ use mathlib.Core.Bool.{true, false}
 use mathlib.Core.List.{List, [], ◌∷◌, ◌++◌, map}
 use lib.IntN.{pos, negsuc}
 use lib.ListN.{replicate}
+use Rattle.std.specs.Prelude.{Result, Ok, Err}
 use Rattle.wire.specs.Bytes.{bit}
-use Rattle.frame.specs.declared.Refusal.TheVariants.{NoRoom, ValueOutOfRange}
-use Rattle.frame.specs.Refusals.{check_number}
+use Rattle.frame.specs.declared.refusal.Refusal.TheVariants.{NoRoom, ValueOutOfRange}
+use Rattle.frame.specs.declared.refusal.Refusal.{Refusal}
+use Rattle.frame.specs.Refusals.{answer_number}
 use Rattle.frame.specs.Frame.{total, sum, summed, frame}
 use Rattle.status.specs.declared.IOState.{IOState}
-use Rattle.list.specs.declared.Listed.{Listed}
-use Rattle.list.specs.declared.Listed.TheVariants.{Stored, NotStored}
 use Rattle.writing.specs.declared.MosfetStatusWire.{MosfetStatusWire}
 use Rattle.writing.specs.Replies.{room_check, WritesFrame, put_at, soc_reply, cell_voltage_range_reply, plus40, temperature_range_reply}
 use Rattle.writing.specs.Replies.{mosfet_status_reply, mosfet_status_check, WritesMosfetStatus, state_byte, status_reply, acknowledgement}
 
 -- 9 where there is one place too few
-rooms : map (λ room. check_number (room_check 13 room)) (0 ∷ 12 ∷ 13 ∷ 14 ∷ []) ++ map (λ size. check_number (room_check size 0)) (0 ∷ 1 ∷ [])
+rooms : map (λ room. answer_number (room_check 13 room)) (0 ∷ 12 ∷ 13 ∷ 14 ∷ []) ++ map (λ size. answer_number (room_check size 0)) (0 ∷ 1 ∷ [])
     ≡ 9 ∷ 9 ∷ 0 ∷ 0 ∷ 0 ∷ 9 ∷ []
 rooms = refl
 
@@ -67,9 +67,9 @@ mosfet-bytes = refl
 
 -- 12 from mode 3 on; 9; 12 before 9
 mosfet_refusals :
-    (map (λ m. check_number (mosfet_status_check (mosfets m) 13)) (0 ∷ 2 ∷ 3 ∷ 255 ∷ [])
-    ∷ map (λ room. check_number (mosfet_status_check (mosfets 2) room)) (12 ∷ 13 ∷ 14 ∷ [])
-    ∷ (check_number (mosfet_status_check (mosfets 3) 12) ∷ [])
+    (map (λ m. answer_number (mosfet_status_check (mosfets m) 13)) (0 ∷ 2 ∷ 3 ∷ 255 ∷ [])
+    ∷ map (λ room. answer_number (mosfet_status_check (mosfets 2) room)) (12 ∷ 13 ∷ 14 ∷ [])
+    ∷ (answer_number (mosfet_status_check (mosfets 3) 12) ∷ [])
     ∷ [])
     ≡ (0 ∷ 0 ∷ 12 ∷ 12 ∷ []) ∷ (9 ∷ 0 ∷ 0 ∷ []) ∷ (12 ∷ []) ∷ []
 mosfet_refusals = refl
@@ -96,19 +96,19 @@ unfolding frame summed sum total
 acknowledgement-bytes = refl
 
 -- what the statements say of the answer and of the lent places
-thirteen_places : (r : Listed) (exit : List ℕ) → WritesFrame (replicate 13 7) (replicate 13 99) r exit → (r ≡ Stored 13) × (exit ≡ replicate 13 7)
+thirteen_places : (r : Result ℕ Refusal) (exit : List ℕ) → WritesFrame (replicate 13 7) (replicate 13 99) r exit → (r ≡ Ok 13) × (exit ≡ replicate 13 7)
 thirteen_places r exit d = (d.answer, d.left)
 
-fourteen_places : (r : Listed) (exit : List ℕ) → WritesFrame (replicate 13 7) (replicate 14 99) r exit → (r ≡ Stored 13) × (exit ≡ replicate 13 7 ++ (99 ∷ []))
+fourteen_places : (r : Result ℕ Refusal) (exit : List ℕ) → WritesFrame (replicate 13 7) (replicate 14 99) r exit → (r ≡ Ok 13) × (exit ≡ replicate 13 7 ++ (99 ∷ []))
 fourteen_places r exit d = (d.answer, d.left)
 
-twelve_places : (r : Listed) (exit : List ℕ) → WritesFrame (replicate 13 7) (replicate 12 99) r exit → (r ≡ NotStored NoRoom) × (exit ≡ replicate 12 99)
+twelve_places : (r : Result ℕ Refusal) (exit : List ℕ) → WritesFrame (replicate 13 7) (replicate 12 99) r exit → (r ≡ Err NoRoom) × (exit ≡ replicate 12 99)
 twelve_places r exit d = (d.answer, d.left)
 
-mode_2 : (r : Listed) (exit : List ℕ) → WritesMosfetStatus 1 (mosfets 2) (replicate 14 99) r exit
-    → (r ≡ Stored 13) × (exit ≡ 0xA5 ∷ 0x01 ∷ 0x93 ∷ 0x08 ∷ 0x02 ∷ 0x01 ∷ 0x00 ∷ 0xC8 ∷ 0x12 ∷ 0x34 ∷ 0x56 ∷ 0x78 ∷ 0x20 ∷ 99 ∷ [])
+mode_2 : (r : Result ℕ Refusal) (exit : List ℕ) → WritesMosfetStatus 1 (mosfets 2) (replicate 14 99) r exit
+    → (r ≡ Ok 13) × (exit ≡ 0xA5 ∷ 0x01 ∷ 0x93 ∷ 0x08 ∷ 0x02 ∷ 0x01 ∷ 0x00 ∷ 0xC8 ∷ 0x12 ∷ 0x34 ∷ 0x56 ∷ 0x78 ∷ 0x20 ∷ 99 ∷ [])
 unfolding frame summed sum total
 mode_2 r exit d = (d.answer, d.left)
 
-mode_3 : (r : Listed) (exit : List ℕ) → WritesMosfetStatus 1 (mosfets 3) (replicate 12 99) r exit → (r ≡ NotStored ValueOutOfRange) × (exit ≡ replicate 12 99)
+mode_3 : (r : Result ℕ Refusal) (exit : List ℕ) → WritesMosfetStatus 1 (mosfets 3) (replicate 12 99) r exit → (r ≡ Err ValueOutOfRange) × (exit ≡ replicate 12 99)
 mode_3 r exit d = (d.answer, d.left)

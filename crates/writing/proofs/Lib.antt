@@ -1,4 +1,2 @@
-pub mod Degrees
-pub mod Storing
 pub mod Examples
 pub mod Decided

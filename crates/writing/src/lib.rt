@@ -1,29 +1,44 @@
 // Replies of one frame as a board sends them, from whole wire counts into a lent buffer: 90 to 94, and the acknowledgements.
+// The sender's address and the lent buffer are two parameters of each writer, as in C (include/daly_writers.h): `writers` hands them on.
 #![tactic(auto)]
 
-ghost use Rattle.std.specs.Prelude.{◌≡◌};
+ghost use Rattle.std.specs.Prelude.{◌≡◌, ℕ, List};
+ghost use Rattle.frame.specs.Frame.{frame};
 ghost use Rattle.writing.specs.Replies.{put_at, WritesFrame, soc_reply, cell_voltage_range_reply, plus40, temperature_range_reply};
-ghost use Rattle.writing.specs.Replies.{mosfet_status_reply, WritesMosfetStatus, state_byte, status_reply, acknowledgement};
+ghost use Rattle.writing.specs.Replies.{WritesMosfetStatus, state_byte, status_reply, acknowledgement};
+ghost use Rattle.writing.specs.Replies.{soc_data, cell_voltage_range_data, temperature_range_data, mosfet_status_data, status_data};
 
 use cell_voltage_range::CellVoltageRangeCounts;
 use frame::{Refusal, command};
-use list::Listed;
 use status::{IOState, Status};
 use temperature_range::TemperatureRange;
-use wire::{high_byte, low_byte};
+use wire::flag_byte;
 
-// As on the wire: tenths, those of an ampere 30,000 more than they are.
+// What a board sends as one frame: under which command, and its eight data bytes. No `data` is the twin of another: each puts other fields
+// where document 01 has them.
+pub trait OneFrame {
+    ghost COMMAND: { ℕ };
+
+    const COMMAND: u8;
+
+    ghost bytes: { Self → List ℕ };
+
+    fn data(self) -> [u8; 8]
+        ensures { result ≡ bytes self };
+}
+
+// As on the wire: tenths, those of an ampere 30,000 more than they are. Laid out for C, as the decoder's `Soc` is not, whose current can fall below 0.
 #[repr(C)]
-#[derive(Clone, Copy)]
+#[derive(Clone, Copy, Debug, PartialEq, Eq)]
 pub struct SocWire {
     pub total_voltage: u16,
     pub current: u16,
     pub soc_percent: u16,
 }
 
-// The mode as its byte; thousandths of an ampere-hour.
+// The mode as its byte; thousandths of an ampere-hour. Laid out for C, as the decoder's `MosfetStatus` is not, which has no mode over 2 to refuse.
 #[repr(C)]
-#[derive(Clone, Copy)]
+#[derive(Clone, Copy, Debug, PartialEq, Eq)]
 pub struct MosfetStatusWire {
     pub mode: u8,
     pub charging_mosfet: bool,
@@ -32,152 +47,171 @@ pub struct MosfetStatusWire {
     pub capacity_ah: u32,
 }
 
-// The 13 bytes of a frame, from place `at` on; none of them where there is no room for all.
+// The 13 bytes of a frame, from place `at` on; none of them where there is no room for all, of which it says nothing. It
+// is not called any more, and stays as the public name of its clause, which has the place (`put_at`).
 pub fn put_frame(reply: [u8; 13], out: &mut [u8], at: usize)
     ensures { out.new ≡ put_at at reply out.old }
 {
-    if out.len() < frame::FRAME_LENGTH {
-        return;
-    }
-    if out.len() - frame::FRAME_LENGTH < at {
-        return;
-    }
-    for i in 0..frame::FRAME_LENGTH {
-        out[at + i] = reply[i];
+    if at <= out.len() {
+        let _ = write_frame(reply, &mut out[at..]);
     }
 }
 
 // A reply of one frame: 9 where there is no room for it.
-pub fn write_frame(reply: [u8; 13], out: &mut [u8]) -> Listed
+pub fn write_frame(reply: [u8; 13], out: &mut [u8]) -> Result<usize, Refusal>
     ensures { WritesFrame reply out.old result out.new }
 {
-    if out.len() < frame::FRAME_LENGTH {
-        return Listed::NotStored(Refusal::NoRoom);
-    }
-    put_frame(reply, out, 0);
-    Listed::Stored(frame::FRAME_LENGTH)
+    let places = out.first_chunk_mut::<13>().ok_or(Refusal::NoRoom)?;
+    *places = reply;
+    Ok(frame::FRAME_LENGTH)
 }
 
-fn soc_reply(address: u8, counts: SocWire) -> [u8; 13]
-    ensures { result ≡ soc_reply address counts }
+// Whatever is one frame, from this sender. `write_soc`, `write_cell_voltage_range`, `write_temperature_range` and `write_status` are a line each
+// over it: public names with clauses of their own, which `writers` cites.
+pub fn write<R: OneFrame>(address: u8, reply: R, out: &mut [u8]) -> Result<usize, Refusal>
+    ensures { WritesFrame (frame address R.COMMAND (R.bytes reply)) out.old result out.new }
 {
-    frame::framed(
-        address,
-        command::SOC,
-        [
-            high_byte(counts.total_voltage),
-            low_byte(counts.total_voltage),
-            0,
-            0,
-            high_byte(counts.current),
-            low_byte(counts.current),
-            high_byte(counts.soc_percent),
-            low_byte(counts.soc_percent),
-        ],
-    )
+    write_frame(frame::framed(address, R::COMMAND, reply.data()), out)
 }
 
-pub fn write_soc(address: u8, counts: SocWire, out: &mut [u8]) -> Listed
+impl OneFrame for SocWire {
+    ghost COMMAND = { 0x90 };
+
+    const COMMAND: u8 = command::SOC;
+
+    ghost bytes = { soc_data };
+
+    fn data(self) -> [u8; 8] {
+        let [voltage_high, voltage_low] = self.total_voltage.to_be_bytes();
+        let [current_high, current_low] = self.current.to_be_bytes();
+        let [percent_high, percent_low] = self.soc_percent.to_be_bytes();
+        [
+            voltage_high,
+            voltage_low,
+            0,
+            0,
+            current_high,
+            current_low,
+            percent_high,
+            percent_low,
+        ]
+    }
+}
+
+pub fn write_soc(address: u8, counts: SocWire, out: &mut [u8]) -> Result<usize, Refusal>
     ensures { WritesFrame (soc_reply address counts) out.old result out.new }
 {
-    write_frame(soc_reply(address, counts), out)
+    write::<SocWire>(address, counts, out)
 }
 
-fn cell_voltage_range_reply(address: u8, counts: CellVoltageRangeCounts) -> [u8; 13]
-    ensures { result ≡ cell_voltage_range_reply address counts }
-{
-    frame::framed(
-        address,
-        command::CELL_VOLTAGE_RANGE,
+impl OneFrame for CellVoltageRangeCounts {
+    ghost COMMAND = { 0x91 };
+
+    const COMMAND: u8 = command::CELL_VOLTAGE_RANGE;
+
+    ghost bytes = { cell_voltage_range_data };
+
+    fn data(self) -> [u8; 8] {
+        let [highest_high, highest_low] = self.highest_voltage.to_be_bytes();
+        let [lowest_high, lowest_low] = self.lowest_voltage.to_be_bytes();
         [
-            high_byte(counts.highest_voltage),
-            low_byte(counts.highest_voltage),
-            counts.highest_cell,
-            high_byte(counts.lowest_voltage),
-            low_byte(counts.lowest_voltage),
-            counts.lowest_cell,
+            highest_high,
+            highest_low,
+            self.highest_cell,
+            lowest_high,
+            lowest_low,
+            self.lowest_cell,
             0,
             0,
-        ],
-    )
+        ]
+    }
 }
 
 pub fn write_cell_voltage_range(
     address: u8,
     counts: CellVoltageRangeCounts,
     out: &mut [u8],
-) -> Listed
+) -> Result<usize, Refusal>
     ensures { WritesFrame (cell_voltage_range_reply address counts) out.old result out.new }
 {
-    write_frame(cell_voltage_range_reply(address, counts), out)
+    write::<CellVoltageRangeCounts>(address, counts, out)
 }
 
-// 40 more, modulo 256: below -40 it wraps, so every `i8` has its byte.
+// 40 more, modulo 256: below -40 it wraps, so every `i8` has its byte. The decoder's way back, in `temperature_range`, is no twin.
 fn degree_byte(degrees: i8) -> u8
     ensures { result ≡ plus40 degrees }
 {
-    if degrees < -40 {
-        return ((degrees as i32) + 296) as u8;
-    }
-    ((degrees as i32) + 40) as u8
+    degrees.wrapping_add(40).cast_unsigned()
 }
 
-fn temperature_range_reply(address: u8, range: TemperatureRange) -> [u8; 13]
-    ensures { result ≡ temperature_range_reply address range }
-{
-    frame::framed(
-        address,
-        command::TEMPERATURE_RANGE,
+impl OneFrame for TemperatureRange {
+    ghost COMMAND = { 0x92 };
+
+    const COMMAND: u8 = command::TEMPERATURE_RANGE;
+
+    ghost bytes = { temperature_range_data };
+
+    fn data(self) -> [u8; 8] {
         [
-            degree_byte(range.highest_temperature),
-            range.highest_sensor,
-            degree_byte(range.lowest_temperature),
-            range.lowest_sensor,
+            degree_byte(self.highest_temperature),
+            self.highest_sensor,
+            degree_byte(self.lowest_temperature),
+            self.lowest_sensor,
             0,
             0,
             0,
             0,
-        ],
-    )
+        ]
+    }
 }
 
-pub fn write_temperature_range(address: u8, range: TemperatureRange, out: &mut [u8]) -> Listed
+pub fn write_temperature_range(
+    address: u8,
+    range: TemperatureRange,
+    out: &mut [u8],
+) -> Result<usize, Refusal>
     ensures { WritesFrame (temperature_range_reply address range) out.old result out.new }
 {
-    write_frame(temperature_range_reply(address, range), out)
+    write::<TemperatureRange>(address, range, out)
 }
 
-fn mosfet_status_reply(address: u8, counts: MosfetStatusWire) -> [u8; 13]
-    ensures { result ≡ mosfet_status_reply address counts }
-{
-    let high = wire::high_half(counts.capacity_ah);
-    let low = wire::low_half(counts.capacity_ah);
-    frame::framed(
-        address,
-        command::MOSFET_STATUS,
+impl OneFrame for MosfetStatusWire {
+    ghost COMMAND = { 0x93 };
+
+    const COMMAND: u8 = command::MOSFET_STATUS;
+
+    ghost bytes = { mosfet_status_data };
+
+    fn data(self) -> [u8; 8] {
+        let [first, second, third, last] = self.capacity_ah.to_be_bytes();
         [
-            counts.mode,
-            wire::flag_byte(counts.charging_mosfet),
-            wire::flag_byte(counts.discharging_mosfet),
-            counts.bms_cycles,
-            high_byte(high),
-            low_byte(high),
-            high_byte(low),
-            low_byte(low),
-        ],
-    )
+            self.mode,
+            flag_byte(self.charging_mosfet),
+            flag_byte(self.discharging_mosfet),
+            self.bms_cycles,
+            first,
+            second,
+            third,
+            last,
+        ]
+    }
 }
 
 // 12 for a mode over 2, then 9.
-pub fn write_mosfet_status(address: u8, counts: MosfetStatusWire, out: &mut [u8]) -> Listed
+pub fn write_mosfet_status(
+    address: u8,
+    counts: MosfetStatusWire,
+    out: &mut [u8],
+) -> Result<usize, Refusal>
     ensures { WritesMosfetStatus address counts out.old result out.new }
 {
     if 2 < counts.mode {
-        return Listed::NotStored(Refusal::ValueOutOfRange);
+        return Err(Refusal::ValueOutOfRange);
     }
-    write_frame(mosfet_status_reply(address, counts), out)
+    write::<MosfetStatusWire>(address, counts, out)
 }
 
+// The way back of `IOState::from`. Neither type is of this crate, so that this is no `From`.
 fn state_byte(states: IOState) -> u8
     ensures { result ≡ state_byte states }
 {
@@ -188,53 +222,54 @@ fn state_byte(states: IOState) -> u8
     wire::byte_of(&flags, 0, 8)
 }
 
-fn status_reply(address: u8, status: Status) -> [u8; 13]
-    ensures { result ≡ status_reply address status }
-{
-    frame::framed(
-        address,
-        command::STATUS,
+impl OneFrame for Status {
+    ghost COMMAND = { 0x94 };
+
+    const COMMAND: u8 = command::STATUS;
+
+    ghost bytes = { status_data };
+
+    fn data(self) -> [u8; 8] {
+        let [cycles_high, cycles_low] = self.cycles.to_be_bytes();
         [
-            status.cells,
-            status.temperature_sensors,
-            wire::flag_byte(status.charger_running),
-            wire::flag_byte(status.load_running),
-            state_byte(status.states),
-            high_byte(status.cycles),
-            low_byte(status.cycles),
+            self.cells,
+            self.temperature_sensors,
+            flag_byte(self.charger_running),
+            flag_byte(self.load_running),
+            state_byte(self.states),
+            cycles_high,
+            cycles_low,
             0,
-        ],
-    )
+        ]
+    }
 }
 
-pub fn write_status(address: u8, status: Status, out: &mut [u8]) -> Listed
+pub fn write_status(address: u8, status: Status, out: &mut [u8]) -> Result<usize, Refusal>
     ensures { WritesFrame (status_reply address status) out.old result out.new }
 {
-    write_frame(status_reply(address, status), out)
+    write::<Status>(address, status, out)
 }
 
-fn write_acknowledgement(address: u8, command: u8, out: &mut [u8]) -> Listed
+// No byte of it has a meaning. The three below are a line each over it: public names with clauses of their own, which `writers` cites.
+fn write_acknowledgement(address: u8, command: u8, out: &mut [u8]) -> Result<usize, Refusal>
     ensures { WritesFrame (acknowledgement address command) out.old result out.new }
 {
-    write_frame(
-        frame::framed(address, command, [0, 0, 0, 0, 0, 0, 0, 0]),
-        out,
-    )
+    write_frame(frame::framed(address, command, [0; 8]), out)
 }
 
-pub fn write_set_discharge_mosfet(address: u8, out: &mut [u8]) -> Listed
+pub fn write_set_discharge_mosfet(address: u8, out: &mut [u8]) -> Result<usize, Refusal>
     ensures { WritesFrame (acknowledgement address 0xD9) out.old result out.new }
 {
     write_acknowledgement(address, command::SET_DISCHARGE_MOSFET, out)
 }
 
-pub fn write_set_charge_mosfet(address: u8, out: &mut [u8]) -> Listed
+pub fn write_set_charge_mosfet(address: u8, out: &mut [u8]) -> Result<usize, Refusal>
     ensures { WritesFrame (acknowledgement address 0xDA) out.old result out.new }
 {
     write_acknowledgement(address, command::SET_CHARGE_MOSFET, out)
 }
 
-pub fn write_set_soc(address: u8, out: &mut [u8]) -> Listed
+pub fn write_set_soc(address: u8, out: &mut [u8]) -> Result<usize, Refusal>
     ensures { WritesFrame (acknowledgement address 0x21) out.old result out.new }
 {
     write_acknowledgement(address, command::SET_SOC, out)

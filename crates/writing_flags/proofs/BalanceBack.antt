@@ -11,7 +11,7 @@ use Rattle.wire.specs.Bytes.{byte_at, bit, byte_of}
 use Rattle.wire.specs.Lists.{firsts}
 use Rattle.wire.proofs.Firsts.{get_or-firsts, firsts-are}
 use Rattle.wire.proofs.Packing.{byte_back}
-use Rattle.frame.specs.declared.Check.TheVariants.{Sound}
+use Rattle.frame.specs.Refusals.{sound}
 use Rattle.frame.proofs.Sound.{frame-long, frame_data, frame_sound}
 use Rattle.list.specs.Listed.{gate}
 use Rattle.flags.specs.Balance.{flag_count, flag_at, balance_check}
@@ -41,7 +41,7 @@ module _ (address : ℕ) (flags : List Bool) where
     all_asked = omega arith
 
     -- the decoder refuses it for no room that is enough
-    pub balance_sound : (room : ℕ) → length flags ≤ room → balance_check reply (length flags) room ≡ Sound
+    pub balance_sound : (room : ℕ) → length flags ≤ room → balance_check reply (length flags) room ≡ sound
     unfolding gate
     balance_sound room r = rw (frame-long address 0x97 bytes refl, all_asked, le-ltb room (length flags) r) (frame_sound address 0x97 bytes refl)
 

@@ -6,11 +6,11 @@ use mathlib.Core.List.{List, [], ◌∷◌, ◌++◌, map}
 use lib.ListN.{replicate}
 use Rattle.wire.specs.Bytes.{bit}
 use Rattle.wire.specs.Lists.{firsts}
-use Rattle.frame.specs.declared.Refusal.TheVariants.{NoRoom, ValueOutOfRange}
-use Rattle.frame.specs.Refusals.{check_number}
+use Rattle.frame.specs.declared.refusal.Refusal.TheVariants.{NoRoom, ValueOutOfRange}
+use Rattle.frame.specs.Refusals.{answer_number}
 use Rattle.frame.specs.Frame.{total, sum, summed, frame}
-use Rattle.list.specs.declared.Listed.{Listed}
-use Rattle.list.specs.declared.Listed.TheVariants.{Stored, NotStored}
+use Rattle.std.specs.Prelude.{Result, Ok, Err}
+use Rattle.frame.specs.declared.refusal.Refusal.{Refusal}
 use Rattle.writing.specs.Replies.{WritesFrame}
 use Rattle.writing_flags.specs.Replies.{balance_reply, balance_list_check, WritesBalance, faults_reply}
 use Rattle.writing_flags.specs.Meant.{set_among, set_faults}
@@ -41,9 +41,9 @@ balance-bytes = refl
 
 -- 12 for 0 and 49 flags and for none of 1 and 48; 9 for 12 places and for none of 13 and 14; 12 before 9
 balance_refusals :
-    (map (λ n. check_number (balance_list_check n 13)) (0 ∷ 1 ∷ 48 ∷ 49 ∷ 256 ∷ [])
-    ∷ map (λ room. check_number (balance_list_check 1 room)) (0 ∷ 12 ∷ 13 ∷ 14 ∷ [])
-    ∷ map (λ n. check_number (balance_list_check n 12)) (0 ∷ 48 ∷ 49 ∷ [])
+    (map (λ n. answer_number (balance_list_check n 13)) (0 ∷ 1 ∷ 48 ∷ 49 ∷ 256 ∷ [])
+    ∷ map (λ room. answer_number (balance_list_check 1 room)) (0 ∷ 12 ∷ 13 ∷ 14 ∷ [])
+    ∷ map (λ n. answer_number (balance_list_check n 12)) (0 ∷ 48 ∷ 49 ∷ [])
     ∷ [])
     ≡ (12 ∷ 0 ∷ 0 ∷ 12 ∷ 12 ∷ []) ∷ (9 ∷ 9 ∷ 0 ∷ 0 ∷ []) ∷ (12 ∷ 9 ∷ 12 ∷ []) ∷ []
 balance_refusals = refl
@@ -71,18 +71,18 @@ meant_past : set_among (true ∷ false ∷ []) (2 ∷ 1 ∷ 0 ∷ []) ≡ 0 ∷ 
 meant_past = refl
 
 -- what the statements say of the answer and of the lent places
-one-flag : (r : Listed) (exit : List ℕ) → WritesBalance 1 (true ∷ []) (replicate 14 99) r exit
-    → (r ≡ Stored 13) × (exit ≡ 0xA5 ∷ 0x01 ∷ 0x97 ∷ 0x08 ∷ 0x01 ∷ 0x00 ∷ 0x00 ∷ 0x00 ∷ 0x00 ∷ 0x00 ∷ 0x00 ∷ 0x00 ∷ 0x46 ∷ 99 ∷ [])
+one-flag : (r : Result ℕ Refusal) (exit : List ℕ) → WritesBalance 1 (true ∷ []) (replicate 14 99) r exit
+    → (r ≡ Ok 13) × (exit ≡ 0xA5 ∷ 0x01 ∷ 0x97 ∷ 0x08 ∷ 0x01 ∷ 0x00 ∷ 0x00 ∷ 0x00 ∷ 0x00 ∷ 0x00 ∷ 0x00 ∷ 0x00 ∷ 0x46 ∷ 99 ∷ [])
 unfolding frame summed sum total
 one-flag r exit d = (d.answer, d.left)
 
-no_flag : (r : Listed) (exit : List ℕ) → WritesBalance 1 [] (replicate 12 99) r exit → (r ≡ NotStored ValueOutOfRange) × (exit ≡ replicate 12 99)
+no_flag : (r : Result ℕ Refusal) (exit : List ℕ) → WritesBalance 1 [] (replicate 12 99) r exit → (r ≡ Err ValueOutOfRange) × (exit ≡ replicate 12 99)
 no_flag r exit d = (d.answer, d.left)
 
-many_flags : (r : Listed) (exit : List ℕ) → WritesBalance 1 (replicate 48 true) (replicate 12 99) r exit → (r ≡ NotStored NoRoom) × (exit ≡ replicate 12 99)
+many_flags : (r : Result ℕ Refusal) (exit : List ℕ) → WritesBalance 1 (replicate 48 true) (replicate 12 99) r exit → (r ≡ Err NoRoom) × (exit ≡ replicate 12 99)
 many_flags r exit d = (d.answer, d.left)
 
-all_edges : (r : Listed) (exit : List ℕ) → WritesFrame (faults_reply 1 edges) (replicate 13 99) r exit
-    → (r ≡ Stored 13) × (exit ≡ 0xA5 ∷ 0x01 ∷ 0x98 ∷ 0x08 ∷ 0x01 ∷ 0x80 ∷ 0x83 ∷ 0x09 ∷ 0x01 ∷ 0x80 ∷ 0x09 ∷ 0x00 ∷ 0xDD ∷ [])
+all_edges : (r : Result ℕ Refusal) (exit : List ℕ) → WritesFrame (faults_reply 1 edges) (replicate 13 99) r exit
+    → (r ≡ Ok 13) × (exit ≡ 0xA5 ∷ 0x01 ∷ 0x98 ∷ 0x08 ∷ 0x01 ∷ 0x80 ∷ 0x83 ∷ 0x09 ∷ 0x01 ∷ 0x80 ∷ 0x09 ∷ 0x00 ∷ 0xDD ∷ [])
 unfolding frame summed sum total
 all_edges r exit d = (d.answer, d.left)

@@ -9,7 +9,7 @@ use lib.ListN.{get_or}
 use Rattle.wire.specs.Bytes.{byte_at, bit, byte_of}
 use Rattle.wire.specs.Lists.{firsts}
 use Rattle.wire.proofs.Packing.{byte_back}
-use Rattle.frame.specs.declared.Check.TheVariants.{Sound}
+use Rattle.frame.specs.Refusals.{sound}
 use Rattle.frame.proofs.Sound.{frame-long, frame_data, frame_sound}
 use Rattle.list.specs.Listed.{gate}
 use Rattle.flags.specs.Faults.{Test, run, fault_tests, faults_by, faults, faults_check}
@@ -78,7 +78,7 @@ module _ (address : ℕ) (flags : List Bool) where
       (data_back 6 0 4 44 4 (omega arith) refl (omega arith)))))))))
 
   -- the decoder refuses it for no room that is enough
-  pub faults_sound : (room : ℕ) → 48 ≤ room → faults_check reply room ≡ Sound
+  pub faults_sound : (room : ℕ) → 48 ≤ room → faults_check reply room ≡ sound
   unfolding gate
   faults_sound room r = rw (frame-long address 0x98 bytes refl, le-ltb room 48 r) (frame_sound address 0x98 bytes refl)
 

@@ -1,12 +1,11 @@
 -- Document 02, K2, "Replies for the bench": balance flags and faults, as a board sends them. Definitions only.
 -- Which bit means what is document 01's, module 4; "Bytes without meaning are zero, a true flag is 1."
-use Rattle.std.specs.Prelude.{ℕ, Bool, ◌||◌, List, [], ◌∷◌, ltb, length}
+use Rattle.std.specs.Prelude.{ℕ, Bool, ◌||◌, List, Result, [], ◌∷◌, ltb, length}
 use Rattle.wire.specs.Bytes.{byte_of}
-use Rattle.frame.specs.declared.Refusal.TheVariants.{ValueOutOfRange}
-use Rattle.frame.specs.declared.Check.{Check}
-use Rattle.frame.specs.Refusals.{refuse}
+use Rattle.frame.specs.declared.refusal.Refusal.{Refusal}
+use Rattle.frame.specs.declared.refusal.Refusal.TheVariants.{ValueOutOfRange}
+use Rattle.frame.specs.Refusals.{Check, refuse}
 use Rattle.frame.specs.Frame.{frame}
-use Rattle.list.specs.declared.Listed.{Listed}
 use Rattle.list.specs.Listed.{Stores}
 use Rattle.writing.specs.Replies.{room_check}
 
@@ -19,7 +18,7 @@ balance_reply address flags = frame address 0x97
 abbrev pub balance_list_check : ℕ → ℕ → Check
 balance_list_check n room = refuse (ltb n 1 || ltb 48 n) ValueOutOfRange (room_check 13 room)
 
-abbrev pub WritesBalance : ℕ → List Bool → List ℕ → Listed → List ℕ → Type 0
+abbrev pub WritesBalance : ℕ → List Bool → List ℕ → Result ℕ Refusal → List ℕ → Type 0
 WritesBalance address flags out r exit = Stores (balance_list_check (length flags) (length out)) (balance_reply address flags) out r exit
 
 -- 98: "Faults are 48 flags by position": 24 to 27 in the low half of byte 7, 44 to 47 in that of byte 10; the high halves and byte 11 are without meaning

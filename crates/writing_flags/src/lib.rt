@@ -1,4 +1,6 @@
 // Balance flags and faults as a board sends them: 97 and 98, into a lent buffer.
+// No twins: the two replies part their flags into bytes differently. `OneFrame` for a type of the lent flags was tried, and does not do:
+// "`rattle check` cannot give this method the clauses of its trait yet".
 #![tactic(auto)]
 
 ghost use Rattle.std.specs.Prelude.{◌≡◌};
@@ -6,7 +8,6 @@ ghost use Rattle.writing.specs.Replies.{WritesFrame};
 ghost use Rattle.writing_flags.specs.Replies.{balance_reply, WritesBalance, faults_reply};
 
 use frame::{Refusal, command};
-use list::Listed;
 use wire::byte_of;
 
 fn balance_reply(address: u8, flags: &[bool]) -> [u8; 13]
@@ -29,16 +30,17 @@ fn balance_reply(address: u8, flags: &[bool]) -> [u8; 13]
 }
 
 // Which cells are balancing: 12 unless it is 1 to 48 flags, then 9.
-pub fn write_cell_balance_state(address: u8, flags: &[bool], out: &mut [u8]) -> Listed
+pub fn write_cell_balance_state(
+    address: u8,
+    flags: &[bool],
+    out: &mut [u8],
+) -> Result<usize, Refusal>
     ensures { WritesBalance address flags.now out.old result out.new }
 {
-    if flags.len() < 1 {
-        return Listed::NotStored(Refusal::ValueOutOfRange);
+    match flags.len() {
+        1..=48 => writing::write_frame(balance_reply(address, flags), out),
+        _ => Err(Refusal::ValueOutOfRange),
     }
-    if 48 < flags.len() {
-        return Listed::NotStored(Refusal::ValueOutOfRange);
-    }
-    writing::write_frame(balance_reply(address, flags), out)
 }
 
 // Positions 24 to 27 and 44 to 47 have a byte's low half each.
@@ -62,7 +64,7 @@ fn faults_reply(address: u8, faults: &[bool]) -> [u8; 13]
 }
 
 // Which faults there are, by their positions in the Rust's `ErrorCode`.
-pub fn write_error_codes(address: u8, faults: &[bool; 48], out: &mut [u8]) -> Listed
+pub fn write_error_codes(address: u8, faults: &[bool; 48], out: &mut [u8]) -> Result<usize, Refusal>
     ensures { WritesFrame (faults_reply address faults.now) out.old result out.new }
 {
     writing::write_frame(faults_reply(address, faults), out)

@@ -47,4 +47,7 @@ loop-more-preserved c =
     )
 
 pub returns : goal.returns
-returns c = let l = c.loop-more in so_all _ _ c.args.stream.now l.at _ _ _ _ _ l.invariant.0 c.loop-more-test.false
+returns c =
+    let l = c.loop-more in
+    let h = so_all _ _ c.args.stream.now l.at _ _ _ _ _ l.invariant.0 c.loop-more-test.false in
+    rw c.counted.ensures (rw c.from-c.ensures at h)

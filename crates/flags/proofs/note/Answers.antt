@@ -17,8 +17,8 @@ loop-i-preserved c =
     let inv = c.loop-i.invariant.2 in
     let r = c.read_bit.ensures in
     elim c.if-read_bit.branch [
-      | then-read_bit w ↦ let h = noted_hit a.reply.now f inv r w.if-read_bit.true w.out-is w.next-is in (search rules, noted_long h, h)
-      | else-read_bit w ↦ let h = noted_miss a.reply.now f inv r w.if-read_bit.false w.out-is w.next-is in (search rules, noted_long h, h)
+      | then-read_bit w ↦ let h = noted_hit a.frame.now f inv r w.if-read_bit.true w.out-is w.next-is in (search rules, noted_long h, h)
+      | else-read_bit w ↦ let h = noted_miss a.frame.now f inv r w.if-read_bit.false w.out-is w.next-is in (search rules, noted_long h, h)
     ]
 
 pub returns : goal.returns

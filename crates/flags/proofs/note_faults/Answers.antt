@@ -6,4 +6,4 @@ use Rattle.flags.proofs.note_faults.Goals as goal
 pub returns : goal.returns
 unfolding faults
 returns c =
-    noted_tests c.args.reply.now low_tests high_tests c.note_low-n.ensures c.note_high.ensures
+    noted_tests c.args.frame.now low_tests high_tests c.note_low-n.ensures c.note_high.ensures

@@ -1,5 +1,5 @@
 use mathlib.Core.Path.{refl}
-use Rattle.list.proofs.Filling.{filled_none, filled_more, filled_all}
+use Rattle.list.proofs.Filling.{filled_none, filled_more, filled_whole}
 use borrow.Author.Rules.{rules}
 use Rattle.flags.proofs.store_flags.Goals as goal
 
@@ -10,4 +10,4 @@ pub loop-i-preserved : goal.loop-i-preserved
 loop-i-preserved c = filled_more c.loop-i.invariant (search rules) (search rules) c.read_bit.ensures refl refl
 
 pub returns : goal.returns
-returns c = filled_all c.loop-i.invariant (search rules)
+returns c = filled_whole refl c.loop-i.invariant (search rules)

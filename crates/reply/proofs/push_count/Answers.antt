@@ -1,11 +1,13 @@
-use Rattle.reply.proofs.Steps.{second_none, second_some}
-use mathlib.Core.Path.{sym, ◌∙◌}
-use borrow.Author.Rules.{rules}
+use Rattle.reply.specs.Input.{state_of, from_second}
+use Rattle.reply.proofs.Steps.{second-none}
+use Rattle.reader.proofs.Promise.{view-fresh}
 use Rattle.reply.proofs.push_count.Goals as goal
 
-pub returns-then-chunk-eq0 : goal.returns-then-chunk-eq0
-returns-then-chunk-eq0 c = record { frames_after = sym (second_none _ _ c.if-chunk-eq0.true); tally_len = search rules }
+pub returns-in_default-clause-frames_after : goal.returns-in_default-clause-frames_after
+unfolding state_of
+returns-in_default-clause-frames_after c = second-none c.args.command _ c.in_default.ensures.cases
 
-pub returns : goal.returns
-returns c =
-    record { frames_after = c.push_stream.ensures.frames_after ∙ second_some _ _ _ _ c.if-chunk-eq0.false c.fresh-counts.ensures; tally_len = c.push_stream.ensures.tally_len }
+pub returns-clause-frames_after : goal.returns-clause-frames_after
+unfolding from_second
+returns-clause-frames_after c =
+    rw c.in-Some.ensures.cases.0 (rw (c.fresh-counts.ensures, view-fresh) at c.push_stream.ensures.frames_after)

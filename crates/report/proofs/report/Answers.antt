@@ -1,11 +1,15 @@
-use borrow.Author.Tests.{eq-eqb, ne_eqb}
-use Rattle.text.proofs.Putting.{put_then}
+use Rattle.std.proofs.Common.{rules, ◌∙◌, sym}
+use Rattle.report.specs.Lines.{refused_line}
+use Rattle.report.specs.Report.{answer_text}
+use Rattle.report.proofs.Laws.{puts_first, puts_second}
 use Rattle.report.proofs.report.Goals as goal
-
-pub returns-then-status-eq2 : goal.returns-then-status-eq2
-returns-then-status-eq2 c =
-    simp (eq-eqb _ _ c.if-status-eq2.true) (put_then c.well_formed.1.1.1.1.1.0.0 c.put_counts-next.ensures c.put_refusal.ensures)
+use Rattle.report.proofs.report.Goals.{then-status-from, else-status-from}
 
 pub returns : goal.returns
 returns c =
-    simp (ne_eqb _ _ c.if-status-eq2.false) (put_then c.well_formed.1.1.1.1.1.0.0 c.put_counts-next.ensures c.put_answer.ensures)
+    let a = c.args in
+    let other = answer_text a.command a.count a.reply.now in
+    elim c.if-status-from.branch [
+      | then-status-from w ↦ (let p = puts_first (refused_line 2) other (w.if-status-from.true ∙ c.from.ensures) w.text-is c.put.ensures w.put_refusal.ensures in search (rules, p))
+      | else-status-from w ↦ (let p = puts_second (refused_line 2) other (λ e. w.if-status-from.false (e ∙ sym c.from.ensures)) w.text-is c.put.ensures w.put_answer.ensures in search (rules, p))
+    ]

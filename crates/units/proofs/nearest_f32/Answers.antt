@@ -4,6 +4,7 @@ use lib.Ieee.{binary32, of_int, of_bits}
 use Rattle.units.proofs.Rounded.{moved_up, nearest-is, coded_no_nan}
 use Rattle.units.proofs.nearest_f32.Goals as goal
 
+-- beside the answers, since none but the first uses it
 of_zero : (n : ℕ) → n ≡ 0 → of_bits binary32 0 ≡ of_int binary32 (pos n)
 unfolding of_bits of_int
 of_zero n e = subst (λ (m : ℕ). of_bits binary32 0 ≡ of_int binary32 (pos m)) (sym e) refl

@@ -14,8 +14,8 @@ pub loop-k-init : goal.loop-k-init
 loop-k-init c =
     let a = c.args in
     let l : List Bool = chosen a.flags.now a.from a.n in
-    let e = c.at_most_8-k.ensures in
-    let m : length l ≤ c.at_most_8-k.result = omega (arith, e, length-firsts (λ j. get_or a.flags.now (a.from + j) false) (min a.n 8)) in
+    let e = c.min-k.ensures in
+    let m : length l ≤ c.min-k.result = omega (arith, e, length-firsts (λ j. get_or a.flags.now (a.from + j) false) (min a.n 8)) in
     (omega (arith, e), sym (ap packed (drop_of_length-le l m)))
 
 pub overflow_mul-byte : goal.overflow_mul-byte

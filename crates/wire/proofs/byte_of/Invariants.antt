@@ -13,6 +13,3 @@ chosen flags from n = firsts (λ j. get_or flags (from + j) false) (min n 8)
 
 abbrev pub invariant-loop-k : goal.invariant-loop-k
 invariant-loop-k l = (l.k ≤ min l.n 8) × (l.byte ≡ packed (drop l.k (chosen l.flags l.from l.n)))
-
-abbrev pub decreases-loop-k : goal.decreases-loop-k
-decreases-loop-k l = l.k

@@ -3,7 +3,7 @@ use Rattle.reader.specs.View.{counted}
 use Rattle.reader.specs.Lent.{TurnedInto}
 use Rattle.reader.specs.declared.Counts.{Counts}
 use Rattle.reader.specs.declared.Standing.{Standing}
-use Rattle.reader.specs.declared.Turn.{Turn}
+use Rattle.reader.specs.declared.pushing.Turn.{Turn}
 use Rattle.reader.proofs.Turning.{asked_stays}
 use Rattle.daly.proofs.readers.daly_reader_push.Goals as goal
 
@@ -11,6 +11,7 @@ use Rattle.daly.proofs.readers.daly_reader_push.Goals as goal
 abbrev next : Counts → Standing → List ℕ → Counts
 next m n t = record { command = m.command; mark = n.mark; strict = m.strict; tally = t; wanted = m.wanted; collected = n.collected; held = n.held }
 
+-- they are the numbers with the answered standing: this push alone stores a part of them, so that no other answer needs it
 next_same : (f : List ℕ) (m : Counts) (s : List ℕ) (x : Turn) (n : Standing) (t f' : List ℕ) → TurnedInto f m s x (counted n t) f' → next m n t ≡ counted n t
 next_same f m s x n t f' e =
     let k = asked_stays f m s x.status x.took (counted n t) f' e.answered in

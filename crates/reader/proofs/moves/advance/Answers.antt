@@ -1,7 +1,5 @@
-use Rattle.std.proofs.Common.{◌≡◌, ◌+◌, ◌*◌, ◌<◌, ◌≤◌, length, drop, arith, rules}
-use lib.Seq.{paste}
-use Rattle.reader.specs.View.{config}
-use Rattle.reader.proofs.Parts.{held_more}
+use Rattle.std.proofs.Common.{◌+◌, ◌*◌, ◌<◌, ◌≤◌, length, drop, arith}
+use Rattle.reader.specs.View.{config_of}
 use Rattle.reader.proofs.Answer.{none-held, moves_append}
 use Rattle.reader.proofs.moves.advance.Goals as goal
 
@@ -10,26 +8,21 @@ returns-then-held-eq0 c =
     let a = c.args in
     rw (none-held a.held (drop (13 * a.collected) a.frames.now) a.chunk.now c.if-held-eq0.true) c.direct.ensures.0
 
-pub copy-requires : goal.copy-requires
-copy-requires c =
-    let full : length c.args.frames.now ≡ 1105 = search rules in
-    let z = c.requires.3 (omega (arith, c.if-held-eq0.false)) in
-    (omega (arith, z, c.requires.1, c.if-len-held.true), omega arith)
+pub hold-requires : goal.hold-requires
+hold-requires c =
+    let z = c.requires.1 (omega (arith, c.if-held-eq0.false)) in
+    (omega (arith, c.if-chunk-held.true), omega (arith, z, c.args.asked.few))
 
-pub returns-then-len-held : goal.returns-then-len-held
-returns-then-len-held c =
+pub returns-then-chunk-held : goal.returns-then-chunk-held
+returns-then-chunk-held c =
     let a = c.args in
     let z : 0 < a.held = omega (arith, c.if-held-eq0.false) in
-    let full : length a.frames.now ≡ 1105 = search rules in
-    let b : a.held + length a.chunk.now ≤ 12 = omega (arith, c.if-len-held.true) in
-    let g = held_more a.frames.now a.chunk.now a.collected a.held (omega (arith, c.requires.3 z, c.requires.1)) b in
-    rw c.copy.ensures
-    (moves_append (config a.command a.wanted a.strict) a.collected a.tally.now a.frames.now (paste a.frames.now (13 * a.collected + a.held) a.chunk.now (length a.chunk.now)) a.chunk.now
-    a.held (a.held + length a.chunk.now) c.requires.5 (c.requires.3 z) z b (c.requires.4 z) g.0 g.1)
+    let b : a.held + length a.chunk.now ≤ 12 = omega (arith, c.if-chunk-held.true) in
+    moves_append (config_of a.asked) a.collected a.tally.now a.frames.now c.hold.new.frames a.chunk.now
+    a.held (a.held + length a.chunk.now) c.told-tally (c.requires.1 z) z b (c.requires.2 z) c.hold.ensures.0 c.hold.ensures.1
 
 pub bridged-requires : goal.bridged-requires
-bridged-requires c =
-    (c.requires.0, c.requires.3 (omega (arith, c.if-held-eq0.false)), c.requires.1, c.requires.5)
+bridged-requires c = (c.requires.0, c.requires.1 (omega (arith, c.if-held-eq0.false)))
 
 pub returns : goal.returns
 returns c = c.bridged.ensures

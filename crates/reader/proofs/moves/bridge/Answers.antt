@@ -1,21 +1,20 @@
-use Rattle.std.proofs.Common.{◌≡◌, ℕ, ◌*◌, List, length, drop, ap, ◌∙◌, arith, length-drop, rules}
-use lib.Seq.{paste, length-paste}
-use Rattle.reader.proofs.Parts.{bridged-bytes}
+use Rattle.std.proofs.Common.{◌≡◌, ℕ, ◌+◌, ◌-◌, ◌*◌, ◌≤◌, List, length, drop, ap, ◌∙◌, arith, length-drop}
+use lib.Seq.{paste}
+use Rattle.reader.proofs.Parts.{bridged-bytes, paste_first}
 use Rattle.reader.proofs.moves.bridge.Goals as goal
 
 pub returns : goal.returns
 returns c =
     let a = c.args in
-    let m = c.least-m.result in
-    let e = c.least-m.ensures in
+    let m : ℕ = c.min-m.result in
     let w : List ℕ = a.w.now in
     let f : List ℕ = drop (13 * a.collected) a.frames.now in
-    let lw : length w ≡ 24 = search rules in
-    let lh : length a.frames.now ≡ 1105 = search rules in
-    let two : c.copy-2.new.to ≡ paste (paste w 0 f 12) a.held a.chunk.now m =
-    c.copy-2.ensures ∙ ap (λ (l : List ℕ). paste l a.held a.chunk.now m) c.copy.ensures in
-    let lv : length c.copy.new.to ≡ 24 = search rules in (
-      rw two (bridged-bytes w f a.chunk.now a.held m c.requires.0 (omega (arith, length-drop (13 * a.collected) a.frames.now, c.requires.1)) (omega arith) e.0 e.1 e.2),
-      ap length c.copy-2.ensures ∙ length-paste c.copy.new.to a.held a.chunk.now m (omega (arith, e.0)) e.1 ∙ lv,
-      omega (arith, e.0),
+    let lf : 12 ≤ length f = omega (arith, length-drop (13 * a.collected) a.frames.now, c.told-frames, c.requires.1) in
+    let n : 13 * a.collected + 12 - 13 * a.collected ≡ 12 = omega arith in
+    let one : c.put.new.to ≡ paste w 0 f 12 = rw n at c.put.ensures ∙ paste_first w f 0 12 lf in
+    let le : m ≤ length a.chunk.now = omega (arith, c.min-m.ensures) in
+    let two : c.put-2.new.to ≡ paste (paste w 0 f 12) a.held a.chunk.now m =
+    c.put-2.ensures ∙ paste_first c.put.new.to a.chunk.now a.held m le ∙ ap (λ (l : List ℕ). paste l a.held a.chunk.now m) one in (
+      rw two (bridged-bytes w f a.chunk.now a.held m c.requires.0 lf (omega (arith, c.told-w)) (omega (arith, c.min-m.ensures)) le (λ h. omega (arith, c.min-m.ensures))),
+      omega (arith, c.min-m.ensures),
     )

@@ -1,7 +1,7 @@
 use Rattle.std.proofs.Common.{◌≡◌, ℕ, ◌+◌, ◌-◌, ◌≤◌, Bool, true, false, ltb, sym, refl, arith, ltb-false, ltb-true, le-ltb, lt-ltb}
 use Rattle.reader.proofs.state.passed.Goals as goal
 
--- what is left to 512, and the sum
+-- what is left to 512, and the sum: the library compares no difference with a sum, and only this answer does
 over : (before lost : ℕ) → before ≤ 512 → ltb (512 - before) lost ≡ ltb 512 (before + lost)
 over before lost h = go (ltb (512 - before) lost) refl
   where

@@ -1,9 +1,0 @@
-use Rattle.reader.specs.Steps.{Quiet}
-use Rattle.std.proofs.Common.{◌-◌, ◌≤◌, length}
-use Rattle.reader.proofs.scan.skip_quiet.Given as goal
-
-abbrev pub invariant-loop-i : goal.invariant-loop-i
-invariant-loop-i l = (l.from ≤ l.i) × (l.i ≤ length l.s) × Quiet l.s l.from l.i
-
-abbrev pub decreases-loop-i : goal.decreases-loop-i
-decreases-loop-i l = length l.s - l.i

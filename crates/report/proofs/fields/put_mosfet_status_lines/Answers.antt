@@ -1,7 +1,0 @@
-use Rattle.text.proofs.Putting.{put_then}
-use Rattle.report.proofs.fields.put_mosfet_status_lines.Goals as goal
-
-pub returns : goal.returns
-returns c =
-    let long = c.well_formed.0.0 in
-    rw (← c.mode_number.ensures) (put_then long (put_then long (put_then long (put_then long c.put_line-next.ensures c.put_flag_line-next.ensures) c.put_flag_line-next-2.ensures) c.put_line-next-2.ensures) c.put_line.ensures)

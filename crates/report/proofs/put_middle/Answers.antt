@@ -1,7 +1,0 @@
-use Rattle.text.proofs.Putting.{put_then}
-use Rattle.report.proofs.put_middle.Goals as goal
-
-pub returns : goal.returns
-returns c =
-    let long = c.well_formed.0.0 in
-    put_then long (put_then long (put_then long c.put_head-next.ensures c.put_field-next.ensures) c.put_field-next-2.ensures) c.put_field.ensures

@@ -1,5 +1,0 @@
-use Rattle.writing.proofs.soc_reply.Goals as goal
-
-pub returns : goal.returns
-returns c =
-    rw (c.low_byte-3.ensures, c.high_byte-3.ensures, c.low_byte-2.ensures, c.high_byte-2.ensures, c.low_byte.ensures, c.high_byte.ensures) at c.framed.ensures

@@ -4,6 +4,7 @@ use Rattle.frame.specs.Commands.{mosfet_command}
 use Rattle.reading.specs.declared.Acknowledged.{Acknowledged}
 use Rattle.reading.specs.declared.Acknowledged.TheVariants.{SetMosfet, SetSoc, BmsReset}
 
+-- the command of each: beside the two of the MOSFETs "`SetSoc` 21, `BmsReset` 00"
 abbrev pub acknowledged_command : Acknowledged → ℕ
 acknowledged_command (SetMosfet mosfet) = mosfet_command mosfet
 acknowledged_command SetSoc = 0x21

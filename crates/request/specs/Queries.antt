@@ -5,6 +5,8 @@ use Rattle.frame.specs.declared.refusal.Refusal.TheVariants.{UnknownCommand}
 use Rattle.request.specs.declared.Query.{Query}
 use Rattle.request.specs.declared.Query.TheVariants.{Soc, CellVoltageRange, TemperatureRange, MosfetStatus, Status, CellVoltages, CellTemperatures, CellBalanceState, ErrorCode, BmsReset}
 
+-- "`Soc` 90, `CellVoltageRange` 91, `TemperatureRange` 92, `MosfetStatus` 93, `Status` 94, `CellVoltages` 95, `CellTemperatures` 96,
+-- `CellBalanceState` 97, `ErrorCode` 98", "`BmsReset` 00"
 abbrev pub query_command : Query → ℕ
 query_command Soc = 0x90
 query_command CellVoltageRange = 0x91
@@ -17,7 +19,7 @@ query_command CellBalanceState = 0x97
 query_command ErrorCode = 0x98
 query_command BmsReset = 0x00
 
--- the request of that command, or refusal 10
+-- the same table the other way; a command that has no row is refused 10, UnknownCommand
 abbrev pub query_of : ℕ → Result Query Refusal
 query_of command =
     cond (command == 0x90) (Ok Soc)
